@@ -1,0 +1,70 @@
+//! Numbers modulo the prime 2^64 - 2^32 + 1.
+#![tactic(auto)]
+
+ghost use Rattle.goldi_field.specs.Numbers.{IsFelt, sum_of, difference_of, product_of, prime};
+ghost use Rattle.std.specs.Prelude.{◌≡◌, ◌<◌, ◌%◌, ◌↔◌, IsSome, IfSome};
+
+/// The prime of the field, 2^64 - 2^32 + 1.
+pub const PRIME: u64 = 18446744069414584321;
+
+/// A field number: a number below the prime.
+#[derive(Clone, Copy, Debug, PartialEq, Eq, PartialOrd, Ord)]
+pub struct Felt {
+    pub number: u64,
+    pub ghost below: { IsFelt number },
+}
+
+impl Felt {
+    pub const ZERO: Felt = Felt { number: 0 };
+
+    pub const ONE: Felt = Felt { number: 1 };
+
+    pub fn new(n: u64) -> Option<Felt>
+        ensures found { IsSome result ↔ IsFelt n }
+        ensures value { IfSome result (λ f. f.number ≡ n) }
+    {
+        if n < PRIME {
+            Some(Felt { number: n })
+        } else {
+            None
+        }
+    }
+
+    pub fn value(self) -> u64
+        ensures { result ≡ self.number }
+    {
+        self.number
+    }
+
+    pub fn add(self, other: Felt) -> Felt
+        ensures { result.number ≡ sum_of self.number other.number }
+    {
+        reduced(self.number as u128 + other.number as u128)
+    }
+
+    pub fn sub(self, other: Felt) -> Felt
+        ensures { result.number ≡ difference_of self.number other.number }
+    {
+        reduced(self.number as u128 + PRIME as u128 - other.number as u128)
+    }
+
+    pub fn mul(self, other: Felt) -> Felt
+        ensures { result.number ≡ product_of self.number other.number }
+    {
+        reduced(self.number as u128 * other.number as u128)
+    }
+
+    pub fn neg(self) -> Felt
+        ensures { result.number ≡ difference_of 0 self.number }
+    {
+        Felt::ZERO.sub(self)
+    }
+}
+
+fn reduced(n: u128) -> Felt
+    ensures { result.number ≡ n % prime }
+{
+    Felt {
+        number: (n % PRIME as u128) as u64,
+    }
+}
