@@ -1,0 +1,4 @@
+pub mod Chains
+pub mod FieldFaults
+pub mod Inversion
+pub mod Rules

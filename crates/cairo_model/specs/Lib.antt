@@ -1,0 +1,9 @@
+pub mod Values
+pub mod Machine
+pub mod Views
+pub mod Laws
+pub mod Pies
+pub mod PieViews
+pub mod PieFiles
+pub mod Answers
+pub mod Acceptance

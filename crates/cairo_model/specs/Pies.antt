@@ -1,0 +1,65 @@
+-- A position-independent execution (PIE) as plain data, and the rules that each one keeps (docs/PIE.md).
+use Rattle.std.specs.Prelude.{ℕ, ◌≡◌, ◌+◌, ◌*◌, ◌^◌, ◌<◌, ◌≤◌, ◌==◌, ◌&&◌, if◌then◌else◌, List, [], ◌∷◌, length, map, sum, slice_index, slice_get, All, Option, Some, None}
+use Rattle.std.specs.List.Sorted.{IsStrictlyIncreasing}
+use Rattle.goldi_field.specs.Numbers.{IsFelt}
+use Rattle.cairo_model.specs.Values.{Datum, number, place}
+
+-- a cell of the memory: the segment and offset where it stands, and its value
+pub record MemoryCell : Type 0 where
+  pub segment : ℕ
+  pub offset : ℕ
+  pub value : Datum
+
+-- where main begins in the program, how many steps the run takes, the size of each segment, and the memory
+pub record PieRecord : Type 0 where
+  pub main : ℕ
+  pub steps : ℕ
+  pub sizes : List ℕ
+  pub cells : List MemoryCell
+
+-- the size of a segment in cells, 0 where there is no such segment
+abbrev pub segment_size : PieRecord → ℕ → ℕ
+segment_size pie segment = slice_index pie.sizes segment
+
+-- A place as one number. Offsets are below 2 ^ 32, so these numbers rise where the pairs (segment, offset) do.
+abbrev pub place_number : ℕ → ℕ → ℕ
+place_number segment offset = segment * 2 ^ 32 + offset
+
+-- a field number, or a place of one of so many segments at an offset below 2 ^ 31
+abbrev pub IsValueIn : ℕ → Datum → Type 0
+IsValueIn segments (number n) = IsFelt n
+IsValueIn segments (place s o) = record { in_segments : s < segments; is_near : o < 2 ^ 31 }
+
+-- a cell below the size of its segment, with such a value
+pub record IsCellOf (sizes : List ℕ) (cell : MemoryCell) : Type 0 where
+  pub in_segments : cell.segment < length sizes
+  pub in_size : cell.offset < slice_index sizes cell.segment
+  pub has_value : IsValueIn (length sizes) cell.value
+
+-- the cells rise strictly by segment, and within a segment by offset
+abbrev pub Rise : List MemoryCell → Type 0
+Rise cells = IsStrictlyIncreasing (map (λ c. place_number c.segment c.offset) cells)
+
+-- 7 to 64 segments, of which the two return segments are empty, with at most 65,536 cells in all
+pub record AreSizes (sizes : List ℕ) : Type 0 where
+  pub at_least : 7 ≤ length sizes
+  pub at_most : length sizes ≤ 64
+  pub no_return_fp : slice_index sizes 5 ≡ 0
+  pub no_return_pc : slice_index sizes 6 ≡ 0
+  pub in_all : sum sizes ≤ 65536
+
+pub record KeepsRules (pie : PieRecord) : Type 0 where
+  pub are_sizes : AreSizes pie.sizes
+  pub few_steps : pie.steps ≤ 65536
+  pub are_cells : All (IsCellOf pie.sizes) pie.cells
+  pub rise : Rise pie.cells
+
+-- the value that stands at a place, which is the first cell's there
+abbrev pub value_at : List MemoryCell → ℕ → ℕ → Option Datum
+value_at [] segment offset = None
+value_at (c ∷ cs) segment offset = if c.segment == segment && c.offset == offset then Some c.value else value_at cs segment offset
+
+-- The cells as a value memory. A number as an address has no cell.
+abbrev pub memory_of : List MemoryCell → Datum → Option Datum
+memory_of cells (number a) = None
+memory_of cells (place segment offset) = value_at cells segment offset
