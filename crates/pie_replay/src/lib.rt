@@ -1,0 +1,2 @@
+//! Reading and replaying position-independent executions.
+#![tactic(auto)]
