@@ -1,5 +1,7 @@
 pub mod Values
 pub mod Machine
+pub mod Keys
+pub mod FieldMemories
 pub mod Views
 pub mod Laws
 pub mod Pies

@@ -1,5 +1,5 @@
 -- A position-independent execution (PIE) as plain data, and the rules that each one keeps (docs/PIE.md).
-use Rattle.std.specs.Prelude.{ℕ, ◌≡◌, ◌+◌, ◌*◌, ◌^◌, ◌<◌, ◌≤◌, ◌==◌, ◌&&◌, if◌then◌else◌, List, [], ◌∷◌, length, map, sum, slice_index, slice_get, All, Option, Some, None}
+use Rattle.std.specs.Prelude.{ℕ, ◌≡◌, ◌+◌, ◌*◌, ◌^◌, ◌<◌, ◌≤◌, ◌==◌, ◌&&◌, Bool, List, length, map, sum, slice_index, find, All, Option, None, option_map}
 use Rattle.std.specs.List.Sorted.{IsStrictlyIncreasing}
 use Rattle.goldi_field.specs.Numbers.{IsFelt}
 use Rattle.cairo_model.specs.Values.{Datum, number, place}
@@ -36,9 +36,12 @@ pub record IsCellOf (sizes : List ℕ) (cell : MemoryCell) : Type 0 where
   pub in_size : cell.offset < slice_index sizes cell.segment
   pub has_value : IsValueIn (length sizes) cell.value
 
+abbrev pub place_numbers : List MemoryCell → List ℕ
+place_numbers cells = map (λ c. place_number c.segment c.offset) cells
+
 -- the cells rise strictly by segment, and within a segment by offset
 abbrev pub Rise : List MemoryCell → Type 0
-Rise cells = IsStrictlyIncreasing (map (λ c. place_number c.segment c.offset) cells)
+Rise cells = IsStrictlyIncreasing (place_numbers cells)
 
 -- 7 to 64 segments, of which the two return segments are empty, with at most 65,536 cells in all
 pub record AreSizes (sizes : List ℕ) : Type 0 where
@@ -54,10 +57,13 @@ pub record KeepsRules (pie : PieRecord) : Type 0 where
   pub are_cells : All (IsCellOf pie.sizes) pie.cells
   pub rise : Rise pie.cells
 
--- the value that stands at a place, which is the first cell's there
+-- whether a cell stands at this place
+abbrev pub stands_at : ℕ → ℕ → MemoryCell → Bool
+stands_at segment offset c = c.segment == segment && c.offset == offset
+
+-- the value of the cell that stands at a place
 abbrev pub value_at : List MemoryCell → ℕ → ℕ → Option Datum
-value_at [] segment offset = None
-value_at (c ∷ cs) segment offset = if c.segment == segment && c.offset == offset then Some c.value else value_at cs segment offset
+value_at cells segment offset = option_map (λ c. c.value) (find (stands_at segment offset) cells)
 
 -- The cells as a value memory. A number as an address has no cell.
 abbrev pub memory_of : List MemoryCell → Datum → Option Datum

@@ -1,4 +1,7 @@
-ghost use Rattle.std.specs.Prelude.{ℕ, Option};
+ghost use Rattle.cairo_model.specs.Acceptance.{AcceptedWith};
+ghost use Rattle.cairo_model.specs.Pies.{PieRecord};
+ghost use Rattle.cairo_model.specs.Values.{Datum};
+ghost use Rattle.std.specs.Prelude.{ℕ, ◌≡◌, List, Option};
 ghost use Rattle.cairo_model.specs.Laws.{FormsAgree, RulesAgree, NeverInField};
 ghost use Rattle.cairo_model.specs.Machine.{Registers};
 
@@ -15,4 +18,9 @@ pub fn rules_agree()
 /// Over the field a result, a jump and a frame are always defined.
 pub fn field_faults()
     ensures { (m : ℕ → Option ℕ) (s : Registers ℕ) → NeverInField m s }
+{}
+
+/// A PIE is accepted alone with one list of outputs and one list of states at most.
+pub fn one_acceptance()
+    ensures { (pie : PieRecord) (xs ys : List ℕ) (us vs : List (Registers Datum)) → AcceptedWith pie xs us → AcceptedWith pie ys vs → (xs ≡ ys) × (us ≡ vs) }
 {}

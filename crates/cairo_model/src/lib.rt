@@ -1,6 +1,7 @@
 //! Types and definitions that the crates of the machine share.
 #![tactic(auto)]
 
+mod cells;
 mod checked;
 mod end;
 mod fault;
@@ -10,19 +11,22 @@ mod outputs;
 mod pie;
 mod place;
 mod read_refusal;
+mod replay_refusal;
 mod state;
 mod value;
 mod value_sums;
 
+pub use cells::Cells;
 pub use checked::Checked;
 pub use end::End;
 pub use fault::StepFault;
 pub use felts::{felt_below, felt_of};
-pub use laws::{field_faults, forms_agree, rules_agree};
+pub use laws::{field_faults, forms_agree, one_acceptance, rules_agree};
 pub use outputs::Outputs;
 pub use pie::{Pie, PieCell};
 pub use place::Place;
 pub use read_refusal::ReadRefusal;
+pub use replay_refusal::ReplayRefusal;
 pub use state::{FieldState, State};
 pub use value::Value;
 pub use value_sums::{add, is_zero, mul, sub};
