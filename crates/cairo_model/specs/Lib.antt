@@ -7,5 +7,8 @@ pub mod Laws
 pub mod Pies
 pub mod PieViews
 pub mod PieFiles
+pub mod Layouts
+pub mod Certificates
+pub mod CertificateViews
 pub mod Answers
 pub mod Acceptance

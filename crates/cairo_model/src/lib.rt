@@ -2,6 +2,7 @@
 #![tactic(auto)]
 
 mod cells;
+mod certificate;
 mod checked;
 mod end;
 mod fault;
@@ -12,11 +13,13 @@ mod pie;
 mod place;
 mod read_refusal;
 mod replay_refusal;
+mod span;
 mod state;
 mod value;
 mod value_sums;
 
 pub use cells::Cells;
+pub use certificate::{Cert, Kind, TaskMark};
 pub use checked::Checked;
 pub use end::End;
 pub use fault::StepFault;
@@ -27,6 +30,7 @@ pub use pie::{Pie, PieCell};
 pub use place::Place;
 pub use read_refusal::ReadRefusal;
 pub use replay_refusal::ReplayRefusal;
+pub use span::Span;
 pub use state::{FieldState, State};
 pub use value::Value;
 pub use value_sums::{add, is_zero, mul, sub};
