@@ -1,2 +1,8 @@
 //! Reading and replaying position-independent executions.
 #![tactic(auto)]
+
+mod cell_reading;
+mod file_parts;
+mod metadata;
+mod metadata_rules;
+mod reading;

@@ -1,0 +1,2 @@
+pub mod ReadingSizes
+pub mod ReadingLoop
