@@ -1,2 +1,7 @@
 pub mod ReadingSizes
 pub mod ReadingLoop
+pub mod ReadingFields
+pub mod ReadingParts
+pub mod ReadingMetadata
+pub mod ReadingCells
+pub mod ReadingLaws

@@ -1,9 +1,9 @@
 -- The numbers of the metadata: what the reading of their array keeps, and their bounds.
-use Rattle.std.proofs.Common.{◌≡◌, ℕ, ◌*◌, ◌^◌, ◌<◌, ◌≤◌, true, false, ltb, List, [], ◌∷◌, ◌++◌, length, sum, All, Option, option_map, refl, arith}
+use Rattle.std.proofs.Common.{◌≡◌, ℕ, ◌*◌, ◌^◌, ◌<◌, ◌≤◌, true, ltb, List, [], ◌∷◌, ◌++◌, length, sum, All, Option, option_map, refl, arith}
 use Rattle.std.specs.List.{AllByRecursion}
 use Rattle.std.proofs.lemmas.Bool.{ltb-true, lt-ltb, and_parts, and_from}
-use Rattle.std.proofs.lemmas.List.Elements.{All-from_recursion, All-head, All-tail, All-weaker, All-get_or}
-use Rattle.std.proofs.lemmas.List.Sums.{sum_by-le}
+use Rattle.std.proofs.lemmas.List.Elements.{All-from_recursion, All-head, All-tail, All-weaker, All-get_or, All-from_get_or}
+use Rattle.std.proofs.lemmas.List.Sums.{sum_by-le, get_or-le-sum_by}
 use Rattle.std.specs.Prelude.{slice_index}
 use Rattle.serde_json.specs.View.{items_view}
 use Rattle.serde_json.specs.declared.value.Value.{Value}
@@ -57,3 +57,7 @@ inside_small ns segment offset h inside =
     let below : offset < slice_index ns segment = ltb-true _ _ p.1 in
     let small : slice_index ns segment < 2 ^ 31 = below_at (2 ^ 31) ns segment h lt in
     omega arith
+
+-- sizes with a small sum are small
+pub small_from_sum : (sizes : List ℕ) → sum sizes ≤ 65536 → all_below (2 ^ 31) sizes ≡ true
+small_from_sum sizes in_all = all_below_from (2 ^ 31) sizes (All-from_get_or (λ n. n < 2 ^ 31) sizes 0 (λ i lt. omega (arith, get_or-le-sum_by (λ n. n) sizes i 0 lt)))

@@ -1,5 +1,5 @@
 -- What the reader keeps of a file, as plain data.
-use Rattle.std.specs.Prelude.{ℕ, List, map}
+use Rattle.std.specs.Prelude.{List, map}
 use Rattle.cairo_model.specs.PieFiles.{Metadata}
 use Rattle.cairo_model.specs.PieViews.{memory_cell}
 use Rattle.cairo_model.specs.Pies.{MemoryCell}

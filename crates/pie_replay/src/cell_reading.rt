@@ -12,7 +12,12 @@ use goldi_field::Felt;
 use std::alloc::Global;
 
 /// So many cells one after the other, and the bytes after them.
-pub(crate) fn file_cells<'a>(alloc: Global, sizes: &[u32], count: u32, bytes: &'a [u8]) -> Result<(Vec<PieCell>, &'a [u8]), End<ReadRefusal>>
+pub(crate) fn file_cells<'a>(
+    alloc: Global,
+    sizes: &[u32],
+    count: u32,
+    bytes: &'a [u8],
+) -> Result<(Vec<PieCell>, &'a [u8]), End<ReadRefusal>>
     requires few { length sizes.now ≤ 64 }
     requires small { all_below (2 ^ 31) sizes.now ≡ true }
     requires enough { 16 * count ≤ length bytes.now }
@@ -47,7 +52,13 @@ fn cell_from(sizes: &[u32], before: Option<u64>, bytes: &[u8]) -> Option<PieCell
     cell_in(sizes, before, segment, offset, value)
 }
 
-fn cell_in(sizes: &[u32], before: Option<u64>, segment: u16, offset: u32, value: Option<Value>) -> Option<PieCell>
+fn cell_in(
+    sizes: &[u32],
+    before: Option<u64>,
+    segment: u16,
+    offset: u32,
+    value: Option<Value>,
+) -> Option<PieCell>
     requires { all_below (2 ^ 31) sizes.now ≡ true }
     ensures { option_map memory_cell result ≡ cell_with sizes.now before segment offset (option_map datum value) }
 {
@@ -108,7 +119,10 @@ fn place_from(segments: usize, segment: u64, offset: u64) -> Option<Value>
     ensures { option_map datum result ≡ place_in segments segment offset }
 {
     if segment < segments as u64 && offset < 1 << 31 {
-        Some(Value::At(Place { segment: segment as u16, offset: offset as u32 }))
+        Some(Value::At(Place {
+            segment: segment as u16,
+            offset: offset as u32,
+        }))
     } else {
         None
     }

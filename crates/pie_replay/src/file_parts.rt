@@ -90,7 +90,10 @@ pub(crate) fn number32(bytes: &[u8]) -> (u32, &[u8])
     ensures rest { result.1.now ≡ drop 4 bytes.now }
 {
     let (first, rest) = bytes.split_at(4);
-    (u32::from_be_bytes([first[0], first[1], first[2], first[3]]), rest)
+    (
+        u32::from_be_bytes([first[0], first[1], first[2], first[3]]),
+        rest,
+    )
 }
 
 pub(crate) fn number64(bytes: &[u8]) -> (u64, &[u8])

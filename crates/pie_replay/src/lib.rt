@@ -6,3 +6,5 @@ mod file_parts;
 mod metadata;
 mod metadata_rules;
 mod reading;
+
+pub use reading::one_pie;

@@ -9,7 +9,9 @@ use std::alloc::{AllocError, Global};
 
 /// The most segments, cells in all segments, and steps of a PIE.
 const SEGMENTS: usize = 64;
+
 const CELLS: u64 = 65_536;
+
 const STEPS: u64 = 65_536;
 
 /// The metadata that the text is, where it keeps the rules.

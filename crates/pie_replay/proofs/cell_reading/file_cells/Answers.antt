@@ -1,10 +1,9 @@
-use Rattle.std.proofs.Common.{◌≡◌, ◌++◌, ◌∷◌, [], ◌≤◌, ◌*◌, ◌-◌, ◌+◌, length, drop, Some, None, sym, ◌∙◌, ap, rules, arith, length-drop}
+use Rattle.std.proofs.Common.{◌≡◌, ◌++◌, ◌∷◌, [], Some, None, rules, arith}
 use Rattle.std.proofs.lemmas.List.{map_push}
 use Rattle.cairo_model.specs.PieViews.{memory_cell}
-use Rattle.cairo_model.specs.Pies.{place_number}
 use Rattle.pie_replay.specs.Reading.{cell_at, cells_at}
 use Rattle.pie_replay.specs.ReadingViews.{memory_cells}
-use Rattle.pie_replay.proofs.ReadingLoop.{with_front, goes_on, stops, is_done}
+use Rattle.pie_replay.proofs.ReadingLoop.{goes_on, stops, is_done}
 use Rattle.pie_replay.proofs.cell_reading.file_cells.Goals as goal
 
 pub returns-in_default : goal.returns-in_default
@@ -20,7 +19,7 @@ loop-index-preserved c =
     let next = goes_on (memory_cells c.loop-index.cells.items) c.args.sizes.now c.args.count c.loop-index.index c.loop-index.before c.loop-index.rest.now (memory_cell cell) (cells_at c.args.sizes.now 0 None c.args.count c.args.bytes.now) c.loop-index-test.true found c.loop-index.invariant.so_far in
     record {
       so_far = rw (e, c.split_at.ensures.back, c.place_number.ensures) next;
-      enough = omega (arith, c.split_at.ensures.back_len, c.loop-index.invariant.enough)
+      enough = omega (arith, c.split_at.ensures.back_len, c.loop-index.invariant.enough);
     }
 
 pub returns : goal.returns

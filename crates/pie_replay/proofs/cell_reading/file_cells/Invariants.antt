@@ -7,5 +7,5 @@ use Rattle.pie_replay.proofs.cell_reading.file_cells.Given as goal
 abbrev pub invariant-loop-index : goal.invariant-loop-index
 invariant-loop-index l = record {
   so_far : with_front (memory_cells l.cells.items) (cells_at l.sizes l.index l.before (l.count - l.index) l.rest) ≡ cells_at l.sizes 0 None l.count l.bytes;
-  enough : 16 * (l.count - l.index) ≤ length l.rest
+  enough : 16 * (l.count - l.index) ≤ length l.rest;
 }

@@ -1,17 +1,14 @@
-use Rattle.std.proofs.Common.{rules, ◌≡◌, ℕ, List, Bool, true, false, Option, Some, None, Result, Ok, Err, refl, ap}
-use Rattle.std.specs.Prelude.{IsUtf8, option_and_then}
+use Rattle.std.proofs.Common.{rules, ◌≡◌, ℕ, List, Bool, true, false, Some, None, refl, ap}
+use Rattle.std.specs.Prelude.{IsUtf8}
 use Rattle.std.specs.Str.{is_utf8}
 use Rattle.std.proofs.lemmas.Str.{IsUtf8-from_is_utf8, is_utf8-from_IsUtf8}
 use Rattle.serde_json.specs.Data.{Data}
 use Rattle.serde_json.specs.Read.{read}
-use Rattle.serde_json.specs.View.{view}
 use Rattle.serde_json.specs.declared.error.Code.TheVariants.{OutOfMemory}
-use Rattle.cairo_model.specs.PieFiles.{Metadata, metadata_of}
+use Rattle.cairo_model.specs.PieFiles.{metadata_of}
 use Rattle.cairo_model.specs.Machine.{required}
-use Rattle.cairo_model.specs.Answers.{Gives}
 use Rattle.cairo_model.specs.declared.read_refusal.ReadRefusal.TheVariants.{BadMetadata}
 use Rattle.pie_replay.specs.Reading.{metadata_in}
-use Rattle.pie_replay.specs.ReadingViews.{metadata}
 use Rattle.pie_replay.proofs.metadata.read_metadata.Goals as goal
 
 -- text that is read says what its reading says

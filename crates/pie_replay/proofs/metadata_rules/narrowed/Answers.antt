@@ -1,4 +1,4 @@
-use Rattle.std.proofs.Common.{◌≡◌, ◌<◌, ◌^◌, slice_index_or, arith}
+use Rattle.std.proofs.Common.{◌<◌, ◌^◌, slice_index_or, arith}
 use Rattle.pie_replay.proofs.ReadingSizes.{below_at}
 use Rattle.pie_replay.proofs.metadata_rules.narrowed.Goals as goal
 
