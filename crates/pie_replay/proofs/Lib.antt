@@ -1,2 +1,10 @@
+pub mod AnswerLaws
 pub mod KeyLemmas
+pub mod ReadingSizes
+pub mod ReadingLoop
+pub mod ReadingFields
+pub mod ReadingParts
+pub mod ReadingMetadata
+pub mod ReadingCells
+pub mod ReadingLaws
 pub mod Refusals

@@ -1,2 +1,4 @@
-pub mod Replaying
 pub mod FirstAnswers
+pub mod Reading
+pub mod ReadingViews
+pub mod Replaying
