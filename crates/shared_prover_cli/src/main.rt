@@ -9,6 +9,8 @@ mod run;
 mod status;
 mod stream;
 mod sure;
+#[cfg(test)]
+mod tests;
 mod whole;
 
 use real::{StdSink, StdSource};
