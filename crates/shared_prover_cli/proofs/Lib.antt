@@ -1,0 +1,2 @@
+mod KeptBytes
+mod WordLemmas

@@ -1,0 +1,10 @@
+use Rattle.std.proofs.Common.{ap, arith, rules, ◌∙◌, sym}
+use Rattle.std.proofs.lemmas.Grind.{common_steps}
+use Rattle.shared_prover_cli.proofs.WordLemmas.{map-one_word}
+use Rattle.shared_prover_cli.proofs.run.asks_to_replay.Goals as goal
+
+-- the only word is the whole list
+pub returns-in-len1 : goal.returns-in-len1
+returns-in-len1 c =
+    let whole = map-one_word c.args.words.now c.word-item.result (omega arith) (omega arith) c.word-item.is in
+    rw whole (search rules)

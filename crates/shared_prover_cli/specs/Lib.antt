@@ -1,0 +1,7 @@
+pub mod Answers
+pub mod Commands
+pub mod Exits
+pub mod Faults
+pub mod MemoryStreams
+pub mod Runs
+pub mod WholeStreams

@@ -1,0 +1,77 @@
+ghost use Rattle.std.specs.Prelude.{◌≡◌, ◌≢◌, ◌↔◌, IsTrue};
+ghost use Rattle.std.specs.Io.KnownBytes.{Appends};
+ghost use Rattle.shared_prover_cli.specs.Answers.{outcome_number};
+ghost use Rattle.shared_prover_cli.specs.Commands.{AsksToReplay};
+ghost use Rattle.shared_prover_cli.specs.Exits.{EndsWriting, IsSilent};
+ghost use Rattle.shared_prover_cli.specs.Faults.{Rose};
+ghost use Rattle.shared_prover_cli.specs.Runs.{Answers, AnswersInPart};
+ghost use Rattle.shared_prover_cli.specs.WholeStreams.{AppendsPart, ConsumesAtMost, ConsumesMoreThan};
+
+use crate::limits::INPUT_LIMIT;
+use crate::replay::{Answer, Outcome, answer_to};
+use crate::status::Status;
+use crate::stream::{Sink, Source};
+use crate::whole::{InputFault, read_whole, write_whole};
+use std::alloc::{AllocError, Global};
+
+/// Runs the command that the words, which are the program's arguments, name.
+pub fn run_plain<R: Sync, S: Source, K: Sink>(
+    alloc: Global,
+    _rt: &R,
+    words: &[String],
+    source: &mut S,
+    sink: &mut K,
+) -> Status
+    ensures usage { (result ≡ Status.Usage) ↔ ¬ AsksToReplay words.now }
+    ensures asked { result ≢ Status.Usage → AsksToReplay words.now }
+    ensures unread { result ≡ Status.Usage → source.new ≡ source.old }
+    ensures unwritten { IsSilent result → sink.new ≡ sink.old }
+    ensures done { result ≡ Status.Done → Answers (S.left source.old) (S.left source.new) (K.held sink.old) (K.held sink.new) 0 }
+    ensures refused { result ≡ Status.Refused → Answers (S.left source.old) (S.left source.new) (K.held sink.old) (K.held sink.new) 1 }
+    ensures cut { result ≡ Status.WriteFault → AnswersInPart (S.left source.old) (S.left source.new) (K.held sink.old) (K.held sink.new) }
+    ensures no_script { result ≢ Status.Script }
+    ensures read_fault { result ≡ Status.ReadFault → Rose (S.faults source.old) (S.faults source.new) }
+    ensures write_fault { result ≡ Status.WriteFault → Rose (K.faults sink.old) (K.faults sink.new) }
+    ensures long { result ≡ Status.TooLong → ConsumesMoreThan INPUT_LIMIT (S.left source.old) (S.left source.new) }
+    ensures within { result ≢ Status.TooLong → ConsumesAtMost INPUT_LIMIT (S.left source.old) (S.left source.new) }
+{
+    if !asks_to_replay(words) {
+        return Status::Usage;
+    }
+    let input = match read_whole(alloc, source, INPUT_LIMIT) {
+        Ok(input) => input,
+        Err(InputFault::ReadFault) => return Status::ReadFault,
+        Err(InputFault::TooLong) => return Status::TooLong,
+        Err(InputFault::OutOfMemory) => return Status::OutOfMemory,
+    };
+    match answer_to(alloc, input.as_slice()) {
+        Ok(answer) => written(&answer, sink),
+        Err(AllocError) => Status::OutOfMemory,
+    }
+}
+
+fn asks_to_replay(words: &[String]) -> bool
+    ensures { IsTrue result ↔ AsksToReplay words.now }
+{
+    match words {
+        [word] => word.as_str() == "replay",
+        _ => false,
+    }
+}
+
+// Writes the text of an answer. The status is the answer's, unless a write fails.
+fn written<K: Sink>(answer: &Answer, sink: &mut K) -> Status
+    ensures done { result ≡ Status.Done → (outcome_number answer.now.outcome ≡ 0) × Appends (K.held sink.old) (K.held sink.new) answer.now.text.items }
+    ensures refused { result ≡ Status.Refused → (outcome_number answer.now.outcome ≡ 1) × Appends (K.held sink.old) (K.held sink.new) answer.now.text.items }
+    ensures cut { result ≡ Status.WriteFault → AppendsPart (K.held sink.old) (K.held sink.new) answer.now.text.items }
+    ensures fault { result ≡ Status.WriteFault → Rose (K.faults sink.old) (K.faults sink.new) }
+    ensures ends { EndsWriting result }
+{
+    match write_whole(sink, answer.text.as_slice()) {
+        Ok(()) => match answer.outcome {
+            Outcome::Done => Status::Done,
+            Outcome::Refused => Status::Refused,
+        },
+        Err(_) => Status::WriteFault,
+    }
+}
