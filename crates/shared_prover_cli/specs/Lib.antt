@@ -4,4 +4,5 @@ pub mod Exits
 pub mod Faults
 pub mod MemoryStreams
 pub mod Runs
+pub mod Texts
 pub mod WholeStreams

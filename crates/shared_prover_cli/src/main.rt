@@ -11,6 +11,7 @@ mod stream;
 mod sure;
 #[cfg(test)]
 mod tests;
+mod texts;
 mod whole;
 
 use real::{StdSink, StdSource};

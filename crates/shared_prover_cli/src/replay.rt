@@ -1,6 +1,9 @@
 ghost use Rattle.std.specs.Prelude.{IfOk};
 ghost use Rattle.shared_prover_cli.specs.Answers.{AnswerOf, outcome_number};
 
+use crate::texts::{admitted_line, refusal_line};
+use cairo_model::End;
+use pie_replay::admit;
 use std::alloc::{AllocError, Global};
 
 /// Whether an input was refused.
@@ -17,18 +20,18 @@ pub struct Answer {
     pub text: Vec<u8>,
 }
 
-#[tactic(auto, unfolding(crate::specs::Answers::AnswerOf))]
 pub fn answer_to(alloc: Global, input: &[u8]) -> Result<Answer, AllocError>
     ensures { IfOk result (λ a. AnswerOf input.now (outcome_number a.outcome) a.text.items) }
 {
-    if input.is_empty() {
-        return Ok(Answer {
+    match admit(alloc, input) {
+        Ok(checked) => Ok(Answer {
+            outcome: Outcome::Done,
+            text: admitted_line(alloc, checked.outputs().as_slice())?,
+        }),
+        Err(End::Refused(refusal)) => Ok(Answer {
             outcome: Outcome::Refused,
-            text: b"refused".to_vec(alloc)?,
-        });
+            text: refusal_line(alloc, refusal)?,
+        }),
+        Err(End::OutOfMemory) => Err(AllocError),
     }
-    Ok(Answer {
-        outcome: Outcome::Done,
-        text: input.to_vec(alloc)?,
-    })
 }
