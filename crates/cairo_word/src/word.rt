@@ -42,6 +42,7 @@ pub struct Instruction {
     pub pc_update: u8,
     pub ap_update: u8,
     pub opcode: u8,
+    // A mixture rules out 3 alone in these two groups, and each has two bits in a word.
     pub ghost narrow: { (res_logic < 4) × (ap_update < 4) },
     pub ghost defined: { mixture_fault_of op1_src res_logic pc_update ap_update opcode ≡ None },
 }
