@@ -2,7 +2,12 @@
 #![tactic(auto)]
 
 mod decoding;
+mod encoding;
 mod word;
 
 pub use decoding::{decode, size};
+pub use encoding::{encode, fields_determine_word};
 pub use word::{Instruction, Reg, WordFault};
+
+#[cfg(test)]
+mod tests;

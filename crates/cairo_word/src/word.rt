@@ -1,5 +1,5 @@
 ghost use Rattle.cairo_word.specs.Word.{mixture_fault_of};
-ghost use Rattle.std.specs.Prelude.{◌≡◌, None};
+ghost use Rattle.std.specs.Prelude.{◌≡◌, ◌<◌, None};
 
 /// A register that an address counts from: the allocation pointer or the frame pointer.
 #[derive(Clone, Copy, Debug, PartialEq, Eq)]
@@ -29,7 +29,7 @@ pub enum WordFault {
     CallMix,
 }
 
-/// A machine instruction. Its flag groups are numbers, each flag's bit at its place in the group.
+/// A machine instruction without a fault. Its groups of flags are numbers, each flag's bit at its place in the group.
 #[derive(Clone, Copy, Debug, PartialEq, Eq)]
 pub struct Instruction {
     pub off_dst: i16,
@@ -42,5 +42,7 @@ pub struct Instruction {
     pub pc_update: u8,
     pub ap_update: u8,
     pub opcode: u8,
+    // A mixture rules out 3 alone in these two groups, and each has two bits in a word.
+    pub ghost narrow: { (res_logic < 4) × (ap_update < 4) },
     pub ghost defined: { mixture_fault_of op1_src res_logic pc_update ap_update opcode ≡ None },
 }

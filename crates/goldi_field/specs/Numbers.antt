@@ -1,5 +1,5 @@
 -- The numbers modulo a prime, as plain numbers.
-use Rattle.std.specs.Prelude.{ℕ, ◌+◌, ◌-◌, ◌*◌, ◌%◌, ◌^◌, ◌<◌}
+use Rattle.std.specs.Prelude.{◌≡◌, ℕ, ◌+◌, ◌-◌, ◌*◌, ◌%◌, ◌^◌, ◌<◌}
 
 -- the prime 2^64 - 2^32 + 1, called the Goldilocks prime
 abbrev pub prime : ℕ
@@ -24,3 +24,7 @@ product_of a b = a * b % prime
 -- the power of a with exponent e modulo the prime, 1 at exponent 0
 abbrev pub power_of : ℕ → ℕ → ℕ
 power_of a e = a ^ e % prime
+
+-- b is the inverse of a: their product is 1
+abbrev pub IsInverse : ℕ → ℕ → Type 0
+IsInverse a b = IsFelt b × (product_of a b ≡ 1)

@@ -1,8 +1,15 @@
 //! Numbers modulo the prime 2^64 - 2^32 + 1.
 #![tactic(auto)]
 
-ghost use Rattle.goldi_field.specs.Numbers.{IsFelt, sum_of, difference_of, product_of, prime};
-ghost use Rattle.std.specs.Prelude.{◌≡◌, ◌<◌, ◌%◌, ◌↔◌, IsSome, IfSome};
+ghost use Rattle.goldi_field.specs.Numbers.{IsFelt, sum_of, difference_of, product_of, power_of};
+ghost use Rattle.std.specs.Prelude.{◌≡◌, ◌↔◌, IsSome, IfSome};
+
+mod inverse;
+mod laws;
+mod reduction;
+
+pub use laws::{factors_cancel, inverses_exist, no_zero_products};
+use reduction::{folded, reduced};
 
 /// The prime of the field, 2^64 - 2^32 + 1.
 pub const PRIME: u64 = 18446744069414584321;
@@ -39,13 +46,13 @@ impl Felt {
     pub fn add(self, other: Felt) -> Felt
         ensures { result.number ≡ sum_of self.number other.number }
     {
-        reduced(self.number as u128 + other.number as u128)
+        folded(self.number as u128 + other.number as u128)
     }
 
     pub fn sub(self, other: Felt) -> Felt
         ensures { result.number ≡ difference_of self.number other.number }
     {
-        reduced(self.number as u128 + PRIME as u128 - other.number as u128)
+        folded(self.number as u128 + PRIME as u128 - other.number as u128)
     }
 
     pub fn mul(self, other: Felt) -> Felt
@@ -59,12 +66,24 @@ impl Felt {
     {
         Felt::ZERO.sub(self)
     }
-}
 
-fn reduced(n: u128) -> Felt
-    ensures { result.number ≡ n % prime }
-{
-    Felt {
-        number: (n % PRIME as u128) as u64,
+    /// The power by repeated squaring: at most 128 products.
+    pub fn pow(self, exponent: u64) -> Felt
+        ensures { result.number ≡ power_of self.number exponent }
+    {
+        let mut power = folded(1);
+        let mut square = self;
+        let mut left = exponent;
+        while left > 0 {
+            if left % 2 == 1 {
+                power = power.mul(square);
+            }
+            square = square.mul(square);
+            left /= 2;
+        }
+        power
     }
 }
+
+#[cfg(test)]
+mod tests;

@@ -1,0 +1,5 @@
+pub mod Inverses
+pub mod Order
+pub mod Pigeonhole
+pub mod Powers
+pub mod Prime
