@@ -14,7 +14,7 @@ use Rattle.cairo_model.specs.Machine.{◌>>=◌, required}
 use Rattle.cairo_model.specs.Values.{Datum, number, place}
 use Rattle.cairo_model.specs.Pies.{MemoryCell, IsValueIn, IsCellOf, place_number}
 use Rattle.cairo_model.specs.PieFiles.{tag_of, payload_of, cell_bytes}
-use Rattle.pie_replay.specs.Reading.{front, number_in, place_in, value_in, all_below, is_inside, is_after, cell_in, cell_at, cells_at}
+use Rattle.pie_replay.specs.Reading.{front, number_value, place_value, value_in, all_below, is_inside, is_after, cell_in, cell_at, cells_at}
 use Rattle.pie_replay.proofs.ReadingSizes.{below_at}
 use Rattle.pie_replay.proofs.ReadingLoop.{cell_parts}
 use Rattle.pie_replay.proofs.ReadingFields.{IsBytes, Takes, Takes-then, wide16, wide32, wide64, front_takes, front_again, rest_again, bind_gives, bind_goes, required_is, then_gives, some_is, ok_is}
@@ -35,12 +35,12 @@ tested false x y z e left right = right refl e
 no_some : {A R : Type 0} (y : A) → None ≡ Some y → R
 no_some y e = absurd (cc)
 
-number_said : (segments payload : ℕ) (v : Datum) → number_in payload ≡ Some v → IsSaid segments 0 payload v
+number_said : (segments payload : ℕ) (v : Datum) → number_value payload ≡ Some v → IsSaid segments 0 payload v
 number_said segments payload v e =
     then_gives (ltb payload prime) (Some (number payload)) v e (λ below same.
     subst (λ (w : Datum). IsSaid segments 0 payload w) (some_is (number payload) v same) (record { tag_is = refl; payload_is = refl; is_value = ltb-true payload prime below }))
 
-place_said : (segments payload : ℕ) (v : Datum) → place_in segments (payload / 2 ^ 32) (payload % 2 ^ 32) ≡ Some v → IsSaid segments 1 payload v
+place_said : (segments payload : ℕ) (v : Datum) → place_value segments (payload / 2 ^ 32) (payload % 2 ^ 32) ≡ Some v → IsSaid segments 1 payload v
 place_said segments payload v e =
     let s = payload / 2 ^ 32 in
     let o = payload % 2 ^ 32 in
@@ -54,9 +54,9 @@ place_said segments payload v e =
 
 value_said : (segments tag payload : ℕ) (v : Datum) → value_in segments tag payload ≡ Some v → IsSaid segments tag payload v
 value_said segments tag payload v e =
-    tested (eqb tag 0) (number_in payload) (cond (eqb tag 1) (place_in segments (payload / 2 ^ 32) (payload % 2 ^ 32)) None) (Some v) e
+    tested (eqb tag 0) (number_value payload) (cond (eqb tag 1) (place_value segments (payload / 2 ^ 32) (payload % 2 ^ 32)) None) (Some v) e
     (λ zero_tag found. subst (λ (t : ℕ). IsSaid segments t payload v) (sym (eqb-true tag 0 zero_tag)) (number_said segments payload v found))
-    (λ _ other. tested (eqb tag 1) (place_in segments (payload / 2 ^ 32) (payload % 2 ^ 32)) None (Some v) other
+    (λ _ other. tested (eqb tag 1) (place_value segments (payload / 2 ^ 32) (payload % 2 ^ 32)) None (Some v) other
     (λ one_tag found. subst (λ (t : ℕ). IsSaid segments t payload v) (sym (eqb-true tag 1 one_tag)) (place_said segments payload v found))
     (λ _ none. no_some v none))
 
@@ -67,7 +67,7 @@ value_again segments (place s o) h =
     let segment : place_number s o / 2 ^ 32 ≡ s = div-mul-add s (2 ^ 32) o near in
     let offset : place_number s o % 2 ^ 32 ≡ o = omega (arith, segment, div-add-mod' (place_number s o) (2 ^ 32)) in
     let inside : ltb s segments && ltb o (2 ^ 31) ≡ true = and_from _ _ (lt-ltb s segments h.in_segments) (lt-ltb o (2 ^ 31) h.is_near) in
-    let made : (t q : ℕ) → t ≡ s → q ≡ o → place_in segments t q ≡ Some (place s o) = λ t q e f. rw (e, f, inside) refl in
+    let made : (t q : ℕ) → t ≡ s → q ≡ o → place_value segments t q ≡ Some (place s o) = λ t q e f. rw (e, f, inside) refl in
     made (place_number s o / 2 ^ 32) (place_number s o % 2 ^ 32) segment offset
 
 -- ---- one cell

@@ -81,18 +81,18 @@ metadata_at text = required BadMetadata (metadata_in text) >>= λ m. unless (met
 -- ---- the cells
 
 -- a field number
-abbrev pub number_in : ℕ → Option Datum
-number_in n = if nat_lt n prime then Some (number n) else None
+abbrev pub number_value : ℕ → Option Datum
+number_value n = if nat_lt n prime then Some (number n) else None
 
 -- a place of one of so many segments, near enough
-abbrev pub place_in : ℕ → ℕ → ℕ → Option Datum
-place_in segments segment offset = if nat_lt segment segments && nat_lt offset (2 ^ 31) then Some (place segment offset) else None
+abbrev pub place_value : ℕ → ℕ → ℕ → Option Datum
+place_value segments segment offset = if nat_lt segment segments && nat_lt offset (2 ^ 31) then Some (place segment offset) else None
 
 -- what a tag and the number after it say
 abbrev pub value_in : ℕ → ℕ → ℕ → Option Datum
 value_in segments tag payload =
-    if tag == 0 then number_in payload
-    else (if tag == 1 then place_in segments (payload / 2 ^ 32) (payload % 2 ^ 32)
+    if tag == 0 then number_value payload
+    else (if tag == 1 then place_value segments (payload / 2 ^ 32) (payload % 2 ^ 32)
     else None)
 
 -- the segment is there, and the offset is below its size

@@ -3,10 +3,10 @@ ghost use Rattle.cairo_model.specs.Answers.{Gives};
 ghost use Rattle.cairo_model.specs.Views.{datum};
 ghost use Rattle.cairo_model.specs.PieViews.{memory_cell};
 ghost use Rattle.cairo_model.specs.Pies.{place_number as number_of_place};
-ghost use Rattle.pie_replay.specs.Reading.{number_in, place_in, value_in, is_inside as stands_inside, is_after as comes_after, cell_in as cell_with, cell_at, cells_at, all_below};
+ghost use Rattle.pie_replay.specs.Reading.{number_value, place_value, value_in, is_inside as stands_inside, is_after as comes_after, cell_in as cell_with, cell_at, cells_at, all_below};
 ghost use Rattle.pie_replay.specs.ReadingViews.{memory_cells};
 
-use crate::file_parts::{number16, number32, number64};
+use crate::file_parts::{CELL_BYTES, number16, number32, number64};
 use cairo_model::{End, PieCell, Place, ReadRefusal, Value};
 use goldi_field::Felt;
 use std::alloc::Global;
@@ -30,7 +30,7 @@ pub(crate) fn file_cells<'a>(
         let Some(cell) = cell_from(sizes, before, rest) else {
             return Err(End::Refused(ReadRefusal::BadCell(index)));
         };
-        let (_, after) = rest.split_at(16);
+        let (_, after) = rest.split_at(CELL_BYTES);
         before = Some(place_number(cell.place.segment, cell.place.offset));
         cells.push(cell)?;
         rest = after;
@@ -106,7 +106,7 @@ fn value_from(segments: usize, tag: u16, payload: u64) -> Option<Value>
 }
 
 fn number_from(number: u64) -> Option<Value>
-    ensures { option_map datum result ≡ number_in number }
+    ensures { option_map datum result ≡ number_value number }
 {
     match Felt::new(number) {
         Some(felt) => Some(Value::Number(felt)),
@@ -116,7 +116,7 @@ fn number_from(number: u64) -> Option<Value>
 
 fn place_from(segments: usize, segment: u64, offset: u64) -> Option<Value>
     requires { segments ≤ 64 }
-    ensures { option_map datum result ≡ place_in segments segment offset }
+    ensures { option_map datum result ≡ place_value segments segment offset }
 {
     if segment < segments as u64 && offset < 1 << 31 {
         Some(Value::At(Place {

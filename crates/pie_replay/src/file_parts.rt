@@ -1,4 +1,4 @@
-ghost use Rattle.std.specs.Prelude.{◌≡◌, ◌≤◌, ◌*◌, ◌+◌, length, drop, take, Option, Some, None, option_map, IfOk, IfSome};
+ghost use Rattle.std.specs.Prelude.{◌≡◌, ◌≤◌, ◌*◌, length, drop, option_map, IfOk, IfSome};
 ghost use Rattle.std.specs.Int.{w16, w32, w64};
 ghost use Rattle.cairo_model.specs.Answers.{Gives};
 ghost use Rattle.pie_replay.specs.Reading.{Parts, front, has_magic, counted as counted_parts, after_length as parts_after_length, whole_parts as all_parts, parts_at};
@@ -12,7 +12,7 @@ const MAGIC: [u8; 8] = [0x43, 0x50, 0x49, 0x45, 0x36, 0x34, 0x00, 0x01];
 const FILE_BYTES: usize = 2_097_152;
 
 /// How many bytes a cell has in the file.
-const CELL_BYTES: u64 = 16;
+pub(crate) const CELL_BYTES: usize = 16;
 
 /// The text of the metadata, the number of cells, and the bytes after that number.
 pub(crate) fn file_parts(bytes: &[u8]) -> Result<(&[u8], u32, &[u8]), End<ReadRefusal>>
@@ -68,13 +68,14 @@ fn counted<'a>(text: &'a [u8], count: u32, rest: &'a [u8]) -> Option<(&'a [u8], 
     ensures exact { option_map (λ x. record { text = x.0.now; count = x.1; rest = x.2.now }) result ≡ counted_parts text.now count rest.now }
     ensures enough { IfSome result (λ x. 16 * x.1 ≤ length x.2.now) }
 {
-    if (rest.len() as u64) < CELL_BYTES * u64::from(count) {
+    if rest.len() < CELL_BYTES * count as usize {
         None
     } else {
         Some((text, count, rest))
     }
 }
 
+/// The number that the first two bytes are, and the bytes after them.
 pub(crate) fn number16(bytes: &[u8]) -> (u16, &[u8])
     requires { 2 ≤ length bytes.now }
     ensures value { result.0 ≡ front w16 bytes.now }

@@ -7,11 +7,13 @@ use crate::metadata::{FileMetadata, read_metadata};
 use cairo_model::{End, ReadRefusal};
 use std::alloc::{AllocError, Global};
 
-/// The most segments, cells in all segments, and steps of a PIE.
+/// The most segments of a PIE.
 const SEGMENTS: usize = 64;
 
+/// The most cells in all segments together.
 const CELLS: u64 = 65_536;
 
+/// The most steps of a run.
 const STEPS: u64 = 65_536;
 
 /// The metadata that the text is, where it keeps the rules.
