@@ -1,0 +1,10 @@
+//! The hash builtin over SHA-256 (FIPS 180-4), the chain of a list of numbers, and the program hash.
+#![tactic(auto)]
+
+mod chains;
+mod instances;
+mod programs;
+
+pub use crate::chains::chain;
+pub use crate::instances::{check_instance, instance};
+pub use crate::programs::{ProgramHash, program_hash};
