@@ -1,11 +1,11 @@
 -- Facts on groups and chains: how many groups a list has, which they are, and that each is one more
 -- instance.
-use Rattle.std.proofs.Common.{◌≡◌, ℕ, zero, suc, ◌+◌, ◌*◌, ◌/◌, ◌%◌, ◌<◌, ◌≤◌, List, [], ◌∷◌, ◌++◌, length, take, slice_index, get_or, refl, ap, sym, ◌∙◌, arith}
+use Rattle.std.proofs.Common.{◌^◌, lit<, ◌≡◌, ℕ, zero, suc, ◌+◌, ◌*◌, ◌/◌, ◌%◌, ◌<◌, ◌≤◌, List, [], ◌∷◌, ◌++◌, length, take, slice_index, get_or, refl, ap, sym, ◌∙◌, arith}
 use Rattle.std.specs.List.{fold}
 use Rattle.std.proofs.lemmas.List.{take_all}
 use Rattle.std.proofs.lemmas.List.Sums.{fold-append, fold_more}
-use Rattle.builtin_hash.specs.Instances.{instance_of}
-use Rattle.builtin_hash.specs.Programs.{program_hash_of, program_numbers}
+use Rattle.builtin_hash.specs.Instances.{AreWords, instance_of}
+use Rattle.builtin_hash.proofs.InstanceLemmas.{AreWords-instance_of}
 use Rattle.builtin_hash.specs.Chains.{chain_from, chain_of, chain_start, group_at, groups_of, words_after}
 
 -- a list has a group for each four numbers, and one for those that are left
@@ -77,10 +77,37 @@ chain_from-append words xs ys whole =
     ap (λ groups. fold instance_of words groups) (groups_of-append xs ys whole)
     ∙ fold-append instance_of words (groups_of xs) (groups_of ys)
 
--- a program's first group is its header, and the rest are those of its code
-pub program_hash_of-header : (main mask : ℕ) (code : List ℕ) → program_hash_of main mask code
-    ≡ chain_from (instance_of (chain_start (length code + 4)) (1 ∷ main ∷ length code ∷ mask ∷ [])) code
+-- one more group of four at the end is one more instance
+pub chain_from-longer : (words front : List ℕ) (a b c d : ℕ) → length front % 4 ≡ 0
+    → chain_from words (front ++ a ∷ b ∷ c ∷ d ∷ []) ≡ instance_of (chain_from words front) (a ∷ b ∷ c ∷ d ∷ [])
 unfolding groups_of
-program_hash_of-header main mask code =
-    let four_more : length (program_numbers main mask code) ≡ length code + 4 = omega arith in
-    ap (λ n. chain_from (instance_of (chain_start n) (1 ∷ main ∷ length code ∷ mask ∷ [])) code) four_more
+chain_from-longer words front a b c d whole = chain_from-append words front (a ∷ b ∷ c ∷ d ∷ []) whole
+
+-- ---- the words of a chain are 32-bit words
+
+pub AreWords-chain_start : (n : ℕ) → n < 2 ^ 32 → AreWords (chain_start n)
+AreWords-chain_start n small = record { eight = refl; fit = each } where
+  each : (k : ℕ) → slice_index (chain_start n) k < 2 ^ 32
+  each zero = lit< tt
+  each (suc zero) = lit< tt
+  each (suc (suc zero)) = lit< tt
+  each (suc (suc (suc zero))) = lit< tt
+  each (suc (suc (suc (suc zero)))) = lit< tt
+  each (suc (suc (suc (suc (suc zero))))) = lit< tt
+  each (suc (suc (suc (suc (suc (suc zero)))))) = lit< tt
+  each (suc (suc (suc (suc (suc (suc (suc zero))))))) = small
+  each (suc (suc (suc (suc (suc (suc (suc (suc k)))))))) = lit< tt
+
+AreWords-fold : (words : List ℕ) (groups : List (List ℕ)) → AreWords words → AreWords (fold instance_of words groups)
+AreWords-fold words [] are = are
+AreWords-fold words (group ∷ rest) are = AreWords-fold (instance_of words group) rest (AreWords-instance_of words group)
+
+pub AreWords-words_after : (words xs : List ℕ) (k : ℕ) → AreWords words → AreWords (words_after words xs k)
+AreWords-words_after words xs k are = AreWords-fold words (take k (groups_of xs)) are
+
+pub AreWords-chain_of : (xs : List ℕ) → length xs < 2 ^ 32 → AreWords (chain_of xs)
+AreWords-chain_of xs small = AreWords-fold _ (groups_of xs) (AreWords-chain_start (length xs) small)
+
+-- the start tells the length
+pub chain_start-same : (m n : ℕ) → chain_start m ≡ chain_start n → m ≡ n
+chain_start-same m n same = ap (λ words. slice_index words 7) same

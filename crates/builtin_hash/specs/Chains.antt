@@ -1,5 +1,5 @@
 -- The chain: a list of numbers hashed by instances, four numbers at a time.
-use Rattle.std.specs.Prelude.{◌≡◌, ℕ, ◌+◌, ◌*◌, ◌<◌, List, [], ◌∷◌, ◌++◌, length, take, fold, slice_index}
+use Rattle.std.specs.Prelude.{ℕ, ◌+◌, ◌*◌, List, [], ◌∷◌, length, take, fold, slice_index}
 use Rattle.builtin_hash.specs.Instances.{instance_of}
 
 -- the list cut into groups of four, the last one filled with zeros

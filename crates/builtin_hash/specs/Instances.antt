@@ -1,6 +1,6 @@
 -- The hash builtin: one instance is twenty numbers, eight words and four numbers that are hashed by
 -- SHA-256 and the eight words of the digest.
-use Rattle.std.specs.Prelude.{◌≡◌, ℕ, ◌<◌, ◌^◌, List, [], ◌∷◌, ◌++◌, length, take, drop, All}
+use Rattle.std.specs.Prelude.{◌≡◌, ℕ, ◌<◌, ◌^◌, List, [], ◌∷◌, ◌++◌, length, take, drop, slice_index, All}
 use Rattle.std.specs.List.{flat_map}
 use Rattle.std.specs.Int.{w32, w64, to_be_bytes}
 use Rattle.sha2.specs.Sha256.{sha256, word_at}
@@ -23,6 +23,11 @@ words_of digest =
 -- the words that an instance gives for its eight words and four numbers
 unfoldable pub instance_of : List ℕ → List ℕ → List ℕ
 instance_of words numbers = words_of (sha256 (message_of words numbers))
+
+-- eight numbers below 2 ^ 32
+pub record AreWords (words : List ℕ) : Type 0 where
+  pub eight : length words ≡ 8
+  pub fit : (k : ℕ) → slice_index words k < 2 ^ 32
 
 -- the parts of an instance's cells: cells 0 to 7, 8 to 11, and 12 to 19
 abbrev pub input_words : List ℕ → List ℕ

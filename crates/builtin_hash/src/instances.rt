@@ -14,7 +14,7 @@ const PRIME: u64 = 18446744069414584321;
 pub fn instance(h: [u32; 8], d: [u64; 4]) -> [u32; 8]
     ensures { result ≡ instance_of h d }
 {
-    words(hashed(h, d))
+    digest_words(hashed(h, d))
 }
 
 fn hashed(h: [u32; 8], d: [u64; 4]) -> [u8; 32]
@@ -30,7 +30,7 @@ fn hashed(h: [u32; 8], d: [u64; 4]) -> [u8; 32]
     hasher.finalize()
 }
 
-fn words(digest: [u8; 32]) -> [u32; 8]
+pub(crate) fn digest_words(digest: [u8; 32]) -> [u32; 8]
     ensures { result ≡ words_of digest }
 {
     [

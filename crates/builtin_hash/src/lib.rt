@@ -3,8 +3,12 @@
 
 mod chains;
 mod instances;
+pub mod laws;
 mod programs;
 
 pub use crate::chains::chain;
 pub use crate::instances::{check_instance, instance};
 pub use crate::programs::{ProgramHash, program_hash};
+
+#[cfg(test)]
+mod tests;

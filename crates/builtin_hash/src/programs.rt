@@ -1,11 +1,15 @@
 //! Program hashes.
 
-ghost use Rattle.std.specs.Prelude.{◌≡◌, ◌-◌, ◌<◌, ◌^◌, ℕ, length, map, slice_index};
+ghost use Rattle.std.specs.Prelude.{◌≡◌, ◌-◌, ◌*◌, ◌<◌, ◌^◌, ◌↔◌, ℕ, Some, IsSome, IfSome, length, map, slice_index};
 ghost use Rattle.std.specs.Int.{w32, to_be_bytes};
-ghost use Rattle.builtin_hash.specs.Programs.{hash_bytes, hash_text, program_hash_of};
+ghost use Rattle.std.specs.List.{AllPass};
+ghost use Rattle.hex.specs.Hex.{is_hex_digit};
+ghost use Rattle.builtin_hash.specs.Programs.{hash_bytes, hash_text, program_hash_of, words_in_text};
 
 use crate::chains::{continued, started};
-use crate::instances::instance;
+use crate::instances::{digest_words, instance};
+use hex::FromHex;
+use std::{fmt, str};
 
 /// The hash of a program under a mask. It is ordered by its words.
 #[derive(Clone, Copy, Debug, PartialEq, Eq, PartialOrd, Ord)]
@@ -39,6 +43,20 @@ impl ProgramHash {
         digits
     }
 
+    /// Reads 64 hexadecimal digits of either case, eight for each word.
+    pub fn from_digits(text: &[u8]) -> Option<ProgramHash>
+        ensures found { IsSome result ↔ ((length text.now ≡ 64) × AllPass is_hex_digit text.now) }
+        ensures value { IfSome result (λ hash. hash.words ≡ words_in_text text.now) }
+    {
+        match <[u8; 32] as FromHex>::from_hex(text) {
+            Ok(bytes) => {
+                let words = digest_words(bytes);
+                Some(ProgramHash { words })
+            }
+            Err(_) => None,
+        }
+    }
+
     // The words' bytes, high byte first.
     fn bytes(&self) -> [u8; 32]
         ensures { result ≡ hash_bytes self.now.words }
@@ -46,6 +64,18 @@ impl ProgramHash {
         let mut bytes = [0; 32];
         bytes.copy_from_slice(word_bytes(&self.words).as_flattened());
         bytes
+    }
+}
+
+impl fmt::Display for ProgramHash {
+    ghost output = { λ hash. Some (hash_text hash.words) };
+
+    fn fmt<W: fmt::Write>(&self, f: &mut fmt::Formatter<W>) -> fmt::Result {
+        let digits = self.digits();
+        let Ok(text) = str::from_utf8(&digits) else {
+            unreachable!();
+        };
+        f.write_str(text)
     }
 }
 

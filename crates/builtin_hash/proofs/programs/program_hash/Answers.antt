@@ -1,7 +1,7 @@
 use Rattle.std.proofs.Common.{[], ◌∷◌, length, ◌∙◌, ap, sym}
 use Rattle.builtin_hash.specs.Instances.{instance_of}
 use Rattle.builtin_hash.specs.Chains.{chain_from}
-use Rattle.builtin_hash.proofs.ChainLemmas.{program_hash_of-header}
+use Rattle.builtin_hash.proofs.ProgramLemmas.{program_hash_of-header}
 use Rattle.builtin_hash.proofs.programs.program_hash.Goals as goal
 
 pub returns : goal.returns
