@@ -13,7 +13,7 @@ pub fn chain(list: &[u64]) -> [u32; 8]
     continued(started(list.len() as u32), list)
 }
 
-/// The words that the chain of `length` numbers starts with.
+// The words that the chain of this many numbers starts with.
 pub(crate) fn started(count: u32) -> [u32; 8]
     ensures { result ≡ chain_start count }
 {

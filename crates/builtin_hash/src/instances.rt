@@ -1,7 +1,7 @@
 //! Hash instances.
 
-ghost use Rattle.std.specs.Prelude.{◌≡◌, ◌+◌, ◌<◌, ◌^◌, ◌↔◌, IsTrue, IsSome, IfSome, All, length, drop, take};
-ghost use Rattle.builtin_hash.specs.Instances.{IsInstance, input_numbers, input_words, instance_of, message_of, output_words, prime, words_of};
+ghost use Rattle.std.specs.Prelude.{◌≡◌, ◌+◌, ◌<◌, ◌^◌, ◌↔◌, IsTrue, All, length};
+ghost use Rattle.builtin_hash.specs.Instances.{IsInstance, instance_of, message_of, words_of};
 ghost use Rattle.sha2.specs.Sha256.{sha256, word_at};
 
 use sha2::{Digest, Sha256};
@@ -9,7 +9,8 @@ use sha2::{Digest, Sha256};
 /// The order of the field, 2^64 - 2^32 + 1.
 const PRIME: u64 = 18446744069414584321;
 
-/// The eight words of the SHA-256 digest of eight words and four numbers, high byte first.
+/// The eight words of the SHA-256 digest (FIPS 180-4) of eight words and four numbers, high byte
+/// first throughout.
 #[tactic(auto, unfolding(crate::specs::Instances::instance_of))]
 pub fn instance(h: [u32; 8], d: [u64; 4]) -> [u32; 8]
     ensures { result ≡ instance_of h d }
