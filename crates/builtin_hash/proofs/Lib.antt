@@ -1,0 +1,3 @@
+pub mod ChainLemmas
+pub mod InstanceLemmas
+pub mod ProgramLemmas

@@ -1,0 +1,3 @@
+pub mod Chains
+pub mod Instances
+pub mod Programs

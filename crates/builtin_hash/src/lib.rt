@@ -1,0 +1,14 @@
+//! The hash builtin over SHA-256 (FIPS 180-4), the chain of a list of numbers, and the program hash.
+#![tactic(auto)]
+
+mod chains;
+mod instances;
+pub mod laws;
+mod programs;
+
+pub use crate::chains::chain;
+pub use crate::instances::{check_instance, instance};
+pub use crate::programs::{ProgramHash, program_hash};
+
+#[cfg(test)]
+mod tests;
