@@ -10,5 +10,6 @@ pub mod PieFiles
 pub mod Layouts
 pub mod Certificates
 pub mod CertificateViews
+pub mod MachineAcceptance
 pub mod Answers
 pub mod Acceptance
