@@ -1,5 +1,5 @@
 -- A field memory by its list of cells.
-use Rattle.std.proofs.Common.{◌≡◌, ℕ, ◌==◌, Bool, true, false, List, map, get_or, length, arith}
+use Rattle.std.proofs.Common.{ℕ, ◌==◌, List, arith}
 use Rattle.std.proofs.lemmas.Bool.Decides.{nat_tests}
 use Rattle.cairo_model.specs.FieldMemories.{FieldCell}
 use Rattle.cairo_model.proofs.Searching.{TellsKey}

@@ -1,9 +1,9 @@
 -- A run is told by its start and its length.
-use Rattle.std.proofs.Common.{◌≡◌, ℕ, suc, ◌<◌, ◌+◌, List, [], ◌∷◌, ◌++◌, length, get_or, Option, Some, Result, Ok, Err, refl, sym, ap, ◌∙◌, subst, arith}
+use Rattle.std.proofs.Common.{◌≡◌, ℕ, ◌<◌, List, [], ◌∷◌, ◌++◌, length, get_or, Option, Some, Result, Ok, Err, refl, sym, ap, ◌∙◌, subst, arith}
 use Rattle.std.proofs.lemmas.List.{ext_get_or}
 use Rattle.cairo_model.specs.Values.{Datum, number}
 use Rattle.cairo_model.specs.Machine.{Arithmetic, Registers, next, Step, RunFrom, RunsTo, last_of}
-use Rattle.cairo_model.specs.Pies.{MemoryCell, PieRecord, segment_size, value_at}
+use Rattle.cairo_model.specs.Pies.{MemoryCell, PieRecord, segment_size}
 use Rattle.cairo_model.specs.Acceptance.{HoldsNumbers, IsolatedRun, AcceptedWith}
 use Rattle.cairo_model.specs.declared.fault.StepFault.{StepFault}
 

@@ -1,7 +1,6 @@
 -- A field memory as a list of its cells, which is a finite map since the addresses rise.
 use Rattle.std.specs.Prelude.{ℕ, ◌==◌, List, map, find, Option, option_map}
 use Rattle.std.specs.List.Sorted.{IsStrictlyIncreasing}
-use Rattle.goldi_field.specs.Numbers.{IsFelt}
 use Rattle.goldi_field.specs.declared.Felt.{Felt}
 
 -- an address and its value

@@ -1,5 +1,5 @@
 -- Bytes that stayed as they were, and were then read or written.
-use Rattle.std.proofs.Common.{◌≡◌, ℕ, List, ◌++◌, Option, Some, None, sym, ap, ◌∙◌}
+use Rattle.std.proofs.Common.{ℕ, List, ◌++◌, Option, Some, None, sym, ap, ◌∙◌}
 use Rattle.std.specs.Io.KnownBytes.{Keeps, Consumes, Appends}
 
 pub Keeps-Consumes : (a b c : Option (List ℕ)) (bytes : List ℕ) → Keeps a b → Consumes b c bytes → Consumes a c bytes

@@ -1,5 +1,5 @@
 -- The commands, as they are spelled.
-use Rattle.std.specs.Prelude.{◌≡◌, ℕ, List, [], ◌∷◌, codes, map, String, string_bytes}
+use Rattle.std.specs.Prelude.{◌≡◌, List, [], ◌∷◌, codes, map, String, string_bytes}
 use Rattle.std.specs.declared.alloc.Global.{Global}
 
 -- the words are `replay` alone

@@ -1,8 +1,8 @@
 -- What is known of a source and of a sink that stand in memory.
 use Rattle.std.specs.Prelude.{ℕ, ◌+◌, ◌-◌, ◌^◌, ◌<◌, ◌≤◌, ◌⊎◌, List, Contains, length}
 
--- a source: the bytes left, the most that one call gives, the numbers of the calls that fail, and the
--- numbers of calls and of faults so far, both of which stop at the last value of 64 bits
+-- a source: the bytes left, the most that one call gives, the numbers of the calls that fail, and how
+-- many calls and faults there were, both of which stop at the last value of 64 bits
 pub record MemInput : Type 0 where
   pub left : List ℕ
   pub most : ℕ
@@ -25,4 +25,5 @@ IsNextListed failing calls = (calls < 2 ^ 64 - 1) × Contains failing (calls + 1
 
 -- a write of this piece fails: its call is listed, or the piece has bytes and finds no room
 abbrev pub FailsToTake : MemOutput → List ℕ → Type 0
-FailsToTake sink piece = IsNextListed sink.failing sink.calls ⊎ (0 < length piece × sink.room ≤ length sink.held)
+FailsToTake sink piece =
+    IsNextListed sink.failing sink.calls ⊎ (0 < length piece × sink.room ≤ length sink.held)

@@ -5,6 +5,8 @@ mod limits;
 mod memory;
 mod real;
 mod replay;
+#[cfg(test)]
+mod replay_tests;
 mod run;
 mod status;
 mod stream;
@@ -12,6 +14,8 @@ mod sure;
 #[cfg(test)]
 mod tests;
 mod texts;
+#[cfg(test)]
+mod vectors;
 mod whole;
 
 use real::{StdSink, StdSource};

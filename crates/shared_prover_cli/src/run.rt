@@ -22,18 +22,29 @@ pub fn run_plain<R: Sync, S: Source, K: Sink>(
     source: &mut S,
     sink: &mut K,
 ) -> Status
+    // Usage comes exactly at other words, and then nothing was read.
     ensures usage { (result ≡ Status.Usage) ↔ ¬ AsksToReplay words.now }
     ensures asked { result ≢ Status.Usage → AsksToReplay words.now }
     ensures unread { result ≡ Status.Usage → source.new ≡ source.old }
+    // At these statuses nothing was written, and at `Done` and `Refused` the whole text.
     ensures unwritten { IsSilent result → sink.new ≡ sink.old }
-    ensures done { result ≡ Status.Done → Answers (S.left source.old) (S.left source.new) (K.held sink.old) (K.held sink.new) 0 }
-    ensures refused { result ≡ Status.Refused → Answers (S.left source.old) (S.left source.new) (K.held sink.old) (K.held sink.new) 1 }
-    ensures cut { result ≡ Status.WriteFault → AnswersInPart (S.left source.old) (S.left source.new) (K.held sink.old) (K.held sink.new) }
+    ensures done { result ≡ Status.Done → Answers
+        (S.left source.old) (S.left source.new) (K.held sink.old) (K.held sink.new) 0 }
+    ensures refused { result ≡ Status.Refused → Answers
+        (S.left source.old) (S.left source.new) (K.held sink.old) (K.held sink.new) 1 }
+    ensures cut { result ≡ Status.WriteFault → AnswersInPart
+        (S.left source.old) (S.left source.new) (K.held sink.old) (K.held sink.new) }
+
+    // The other statuses, each by its cause. Want of memory alone is free.
     ensures no_script { result ≢ Status.Script }
-    ensures read_fault { result ≡ Status.ReadFault → Rose (S.faults source.old) (S.faults source.new) }
-    ensures write_fault { result ≡ Status.WriteFault → Rose (K.faults sink.old) (K.faults sink.new) }
-    ensures long { result ≡ Status.TooLong → ConsumesMoreThan INPUT_LIMIT (S.left source.old) (S.left source.new) }
-    ensures within { result ≢ Status.TooLong → ConsumesAtMost INPUT_LIMIT (S.left source.old) (S.left source.new) }
+    ensures read_fault { result ≡ Status.ReadFault →
+        Rose (S.faults source.old) (S.faults source.new) }
+    ensures write_fault { result ≡ Status.WriteFault →
+        Rose (K.faults sink.old) (K.faults sink.new) }
+    ensures long { result ≡ Status.TooLong →
+        ConsumesMoreThan INPUT_LIMIT (S.left source.old) (S.left source.new) }
+    ensures within { result ≢ Status.TooLong →
+        ConsumesAtMost INPUT_LIMIT (S.left source.old) (S.left source.new) }
 {
     if !asks_to_replay(words) {
         return Status::Usage;
@@ -61,9 +72,12 @@ fn asks_to_replay(words: &[String]) -> bool
 
 // Writes the text of an answer. The status is the answer's, unless a write fails.
 fn written<K: Sink>(answer: &Answer, sink: &mut K) -> Status
-    ensures done { result ≡ Status.Done → (outcome_number answer.now.outcome ≡ 0) × Appends (K.held sink.old) (K.held sink.new) answer.now.text.items }
-    ensures refused { result ≡ Status.Refused → (outcome_number answer.now.outcome ≡ 1) × Appends (K.held sink.old) (K.held sink.new) answer.now.text.items }
-    ensures cut { result ≡ Status.WriteFault → AppendsPart (K.held sink.old) (K.held sink.new) answer.now.text.items }
+    ensures done { result ≡ Status.Done → (outcome_number answer.now.outcome ≡ 0)
+        × Appends (K.held sink.old) (K.held sink.new) answer.now.text.items }
+    ensures refused { result ≡ Status.Refused → (outcome_number answer.now.outcome ≡ 1)
+        × Appends (K.held sink.old) (K.held sink.new) answer.now.text.items }
+    ensures cut { result ≡ Status.WriteFault →
+        AppendsPart (K.held sink.old) (K.held sink.new) answer.now.text.items }
     ensures fault { result ≡ Status.WriteFault → Rose (K.faults sink.old) (K.faults sink.new) }
     ensures ends { EndsWriting result }
 {

@@ -3,7 +3,9 @@ use crate::real::{StdSink, StdSource};
 use crate::run::run_plain;
 use crate::status::Status;
 use crate::sure::{SureSink, SureSource};
+use crate::vectors::{BACK, EMPTY, FIVE};
 use crate::whole::{InputFault, read_whole, write_whole};
+use hex::decode;
 use std::alloc::{AllocError, Global};
 use std::test::Fail;
 
@@ -18,13 +20,19 @@ fn words_of(alloc: Global, texts: &[&str]) -> Result<Vec<String>, AllocError> {
 #[test]
 fn answers_whatever_the_pieces(rt: HostRuntime) -> Result<(), Fail> {
     let words = words_of(rt.alloc(), &["replay"])?;
-    for (gives, takes) in [(1, 1), (1, 3), (2, 100), (100, 2)] {
-        let input = b"hello".to_vec(rt.alloc())?;
-        let mut source = MemSource::new(input, gives, Vec::new(rt.alloc()));
-        let mut sink = MemSink::new(rt.alloc(), 100, takes, Vec::new(rt.alloc()))?;
-        let status = run_plain(rt.alloc(), &rt, words.as_slice(), &mut source, &mut sink);
-        assert_eq!(rt; status, Status::Done);
-        assert_eq!(rt; sink.bytes(), b"hello".as_slice());
+    for (digits, line) in [
+        (EMPTY, b"admitted outputs\n".as_slice()),
+        (FIVE, b"admitted outputs 5\n"),
+        (BACK, b"admitted outputs\n"),
+    ] {
+        for (gives, takes) in [(1, 1), (1, 3), (100, 2)] {
+            let input = decode(rt.alloc(), digits)?;
+            let mut source = MemSource::new(input, gives, Vec::new(rt.alloc()));
+            let mut sink = MemSink::new(rt.alloc(), 100, takes, Vec::new(rt.alloc()))?;
+            let status = run_plain(rt.alloc(), &rt, words.as_slice(), &mut source, &mut sink);
+            assert_eq!(rt; status, Status::Done);
+            assert_eq!(rt; sink.bytes(), line);
+        }
     }
     Ok(())
 }
@@ -46,8 +54,8 @@ fn a_failing_read_writes_nothing(rt: HostRuntime) -> Result<(), Fail> {
 #[test]
 fn a_failing_write_leaves_a_beginning(rt: HostRuntime) -> Result<(), Fail> {
     let words = words_of(rt.alloc(), &["replay"])?;
-    for (room, failing, held) in [(100, 2, b"he".as_slice()), (100, 1, b""), (3, 9, b"hel")] {
-        let mut source = SureSource::new(b"hello".to_vec(rt.alloc())?);
+    for (room, failing, held) in [(100, 2, b"ad".as_slice()), (100, 1, b""), (3, 9, b"adm")] {
+        let mut source = SureSource::new(decode(rt.alloc(), FIVE)?);
         let mut sink = MemSink::new(rt.alloc(), room, 2, [failing].to_vec(rt.alloc())?)?;
         let status = run_plain(rt.alloc(), &rt, words.as_slice(), &mut source, &mut sink);
         assert_eq!(rt; status.number(), 5);

@@ -43,11 +43,15 @@ pub fn read_whole<S: Source>(
     source: &mut S,
     limit: usize,
 ) -> Result<Vec<u8>, InputFault>
-    ensures bytes { IfOk result (λ v. ConsumesAll (S.left source.old) (S.left source.new) v.items) }
+    ensures bytes { IfOk result (λ v.
+        ConsumesAll (S.left source.old) (S.left source.new) v.items) }
     ensures short { IfOk result (λ v. vec_len v ≤ limit) }
-    ensures long { result ≡ Err InputFault.TooLong → ConsumesMoreThan limit (S.left source.old) (S.left source.new) }
-    ensures within { result ≢ Err InputFault.TooLong → ConsumesAtMost limit (S.left source.old) (S.left source.new) }
-    ensures failed { result ≡ Err InputFault.ReadFault → Rose (S.faults source.old) (S.faults source.new) }
+    ensures long { result ≡ Err InputFault.TooLong →
+        ConsumesMoreThan limit (S.left source.old) (S.left source.new) }
+    ensures within { result ≢ Err InputFault.TooLong →
+        ConsumesAtMost limit (S.left source.old) (S.left source.new) }
+    ensures failed { result ≡ Err InputFault.ReadFault →
+        Rose (S.faults source.old) (S.faults source.new) }
     ensures faults { S.faults source.old ≤ S.faults source.new }
 {
     let mut bytes = Vec::new(alloc);

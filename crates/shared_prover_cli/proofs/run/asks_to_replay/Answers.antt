@@ -1,5 +1,4 @@
-use Rattle.std.proofs.Common.{ap, arith, rules, ◌∙◌, sym}
-use Rattle.std.proofs.lemmas.Grind.{common_steps}
+use Rattle.std.proofs.Common.{arith, rules}
 use Rattle.shared_prover_cli.proofs.WordLemmas.{map-one_word}
 use Rattle.shared_prover_cli.proofs.run.asks_to_replay.Goals as goal
 

@@ -1,4 +1,4 @@
-use Rattle.std.proofs.Common.{◌≡◌, ◌++◌, ◌+◌, arith, length, length-append, rules, sym, take, vec_len}
+use Rattle.std.proofs.Common.{◌≡◌, ◌++◌, arith, length, length-append, rules, sym, take, vec_len}
 use Rattle.std.proofs.KnownBytes.{Consumes-trans}
 use Rattle.shared_prover_cli.proofs.whole.read_whole.Goals as goal
 

@@ -1,4 +1,4 @@
-use Rattle.std.proofs.Common.{◌≡◌, ℕ, List, Option, Some, None, option_map, map, get_or, sym, subst, ap, ◌∙◌}
+use Rattle.std.proofs.Common.{◌≡◌, ℕ, List, Option, Some, None, option_map, map, sym, subst, ap, ◌∙◌}
 use Rattle.cairo_model.specs.FieldMemories.{FieldCell, field_cell, addresses, cell_at}
 use Rattle.cairo_model.specs.Keys.{IsKeyAt, IsGapFor}
 use Rattle.cairo_model.proofs.CellLemmas.{address_tells}
