@@ -1,0 +1,15 @@
+//! The bytes of certificates.
+#![tactic(auto)]
+
+mod draft;
+mod fields;
+mod laws;
+mod lists;
+mod order;
+mod parts;
+mod reading;
+mod refusal;
+
+pub use laws::{one_certificate, reads_back};
+pub use reading::read_cert;
+pub use refusal::CertRefusal;
