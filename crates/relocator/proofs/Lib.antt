@@ -1,0 +1,4 @@
+pub mod Carrying
+pub mod Finding
+pub mod Homomorphism
+pub mod PieMemories
