@@ -42,7 +42,7 @@ pub contains_map : {X Y : Type 0} (f : X → Y) (xs : List X) (x : X) → Contai
 contains_map f xs x stands = (stands.0, omega (arith, stands.1, length-map xs f), get_or-map f xs stands.0 x (f x) stands.1 ∙ ap f stands.2)
 
 -- an element of a list that has one
-at_some : {X R : Type 0} (xs : List X) (i : ℕ) → i < length xs → (X → R) → R
+pub at_some : {X R : Type 0} (xs : List X) (i : ℕ) → i < length xs → (X → R) → R
 at_some [] i lt go = absurd (omega arith)
 at_some (x ∷ xs) i lt go = go x
 

@@ -1,4 +1,9 @@
+pub mod Apart
 pub mod Carrying
 pub mod Finding
 pub mod Homomorphism
+pub mod ListFacts
 pub mod PieMemories
+pub mod PlacedCells
+pub mod PlacedRuns
+pub mod Staying

@@ -1,2 +1,4 @@
+pub mod Lists
 pub mod Placing
 pub mod Relocations
+pub mod Staying

@@ -1,7 +1,8 @@
-ghost use Rattle.std.specs.Prelude.{ℕ, List};
+ghost use Rattle.std.specs.Prelude.{ℕ, List, length};
 ghost use Rattle.cairo_model.specs.Layouts.{Fits};
 ghost use Rattle.cairo_model.specs.Pies.{PieRecord, KeepsRules};
 ghost use Rattle.relocator.specs.Relocations.{AreBases, KeepsArithmetic, KeepsSteps, KeepsRuns, RunsOverField};
+ghost use Rattle.relocator.specs.Staying.{StatesStay};
 
 /// Where the arithmetic of values is defined, the field agrees with it.
 pub fn keeps_arithmetic()
@@ -29,3 +30,8 @@ pub fn runs_anywhere()
 {
     keeps_arithmetic();
 }
+
+/// A run over the cells of a PIE that begins in its segments stays there.
+pub fn states_stay()
+    ensures { (pie : PieRecord) → KeepsRules pie → StatesStay (length pie.sizes) pie.cells }
+{}
