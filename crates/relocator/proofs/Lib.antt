@@ -3,7 +3,10 @@ pub mod Carrying
 pub mod Finding
 pub mod Homomorphism
 pub mod ListFacts
+pub mod ListsIn
+pub mod LoneLayout
 pub mod PieMemories
 pub mod PlacedCells
 pub mod PlacedRuns
+pub mod RunsPlaced
 pub mod Staying

@@ -1,5 +1,5 @@
 -- Facts on lists that are seen through a view of their elements.
-use Rattle.std.proofs.Common.{◌≡◌, ℕ, ◌<◌, ◌≤◌, ◌==◌, List, length, map, All, get_or, sym, ◌∙◌, subst, arith}
+use Rattle.std.proofs.Common.{◌≡◌, ℕ, ◌<◌, ◌≤◌, ◌==◌, List, length, map, All, get_or, Result, Ok, Err, IfOk, sym, ◌∙◌, subst, arith}
 use Rattle.std.specs.List.Sorted.{IsNonDecreasingBy, IsNonDecreasing}
 use Rattle.std.proofs.lemmas.List.{get_or-map, length-map}
 use Rattle.relocator.proofs.Finding.{at_some}
@@ -12,3 +12,7 @@ non_decreasing_map key xs up i j d le lt =
     let there : j < length xs = omega (arith, length-map xs key) in
     let here : i < length xs = omega arith in
     at_some xs j there (λ e. rw (get_or-map key xs i e d here, get_or-map key xs j e d there) (up i j e le there))
+
+pub if_ok_both : {T E : Type 0} (r : Result T E) (P Q R : T → Type 0) → IfOk r P → IfOk r Q → ((x : T) → P x → Q x → R x) → IfOk r R
+if_ok_both (Ok x) P Q R p q both = both x p q
+if_ok_both (Err e) P Q R p q both = tt
