@@ -3,11 +3,13 @@
 
 mod laws;
 mod lists;
+mod lone_certificate;
 mod lone_layout;
 mod relocating;
 mod sorting;
 mod values;
 
+pub use lone_certificate::{lone_cert, lone_certificates_hold};
 pub use lone_layout::{alone, lone_layout_fits};
 pub use laws::{keeps_arithmetic, keeps_runs, keeps_steps, runs_anywhere, states_stay};
 pub use relocating::{Placed, relocate};
