@@ -12,4 +12,5 @@ pub mod PieMemories
 pub mod PlacedCells
 pub mod PlacedRuns
 pub mod RunsPlaced
+pub mod Spelling
 pub mod Staying
