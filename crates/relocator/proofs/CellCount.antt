@@ -1,5 +1,5 @@
 -- A PIE has no more cells than its segments have room for.
-use Rattle.std.proofs.Common.{◌≡◌, ℕ, zero, suc, ◌+◌, ◌*◌, ◌^◌, ◌<◌, ◌≤◌, List, length, get_or, arith}
+use Rattle.std.proofs.Common.{ℕ, zero, suc, ◌+◌, ◌*◌, ◌<◌, ◌≤◌, length, get_or, arith}
 use Rattle.std.proofs.lemmas.List.Elements.{All-get_or}
 use Rattle.cairo_model.specs.Pies.{MemoryCell, PieRecord, IsCellOf, KeepsRules, place_number}
 use Rattle.cairo_model.proofs.Searching.{key_is, keys_rise}

@@ -1,5 +1,5 @@
 -- What the code's lists owe, from what is known of them as plain data.
-use Rattle.std.proofs.Common.{◌≡◌, ℕ, ◌<◌, List, All, length, map, Option, sym, ap, subst, ◌∙◌, refl, arith}
+use Rattle.std.proofs.Common.{◌≡◌, ℕ, ◌<◌, List, All, length, map, sym, ◌∙◌, arith}
 use Rattle.std.proofs.lemmas.List.Elements.{All-weaker}
 use Rattle.std.proofs.lemmas.List.Sums.{get_or-le-sum_by}
 use Rattle.std.proofs.lemmas.List.{length-map}
@@ -8,7 +8,7 @@ use Rattle.cairo_model.specs.declared.pie.PieCell.{PieCell}
 use Rattle.cairo_model.specs.declared.state.State.{State}
 use Rattle.cairo_model.specs.Values.{Datum, number, place}
 use Rattle.cairo_model.specs.Machine.{Registers}
-use Rattle.cairo_model.specs.Pies.{MemoryCell, PieRecord, AreSizes, KeepsRules, IsCellOf, IsValueIn, segment_size}
+use Rattle.cairo_model.specs.Pies.{PieRecord, KeepsRules, IsCellOf, IsValueIn, segment_size}
 use Rattle.cairo_model.specs.PieViews.{memory_cell}
 use Rattle.cairo_model.specs.Views.{datum, registers}
 use Rattle.cairo_model.specs.Acceptance.{start_of}

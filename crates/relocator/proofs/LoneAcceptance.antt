@@ -1,18 +1,16 @@
 -- The machine accepts the placed run of a PIE.
-use Rattle.std.proofs.Common.{◌≡◌, ℕ, ◌+◌, ◌-◌, ◌^◌, ◌<◌, ◌≤◌, List, [], ◌∷◌, length, map, All, get_or, Option, Some, None, option_and_then, refl, sym, ap, ap₂, subst, ◌∙◌, arith}
+use Rattle.std.proofs.Common.{◌≡◌, ℕ, ◌+◌, ◌-◌, ◌^◌, ◌<◌, ◌≤◌, List, [], ◌∷◌, length, All, get_or, Option, Some, None, option_and_then, refl, sym, ap, subst, ◌∙◌, arith}
 use Rattle.std.proofs.lemmas.List.Elements.{All-head, All-tail}
 use Rattle.std.proofs.lemmas.List.Sums.{get_or-le-sum_by}
-use Rattle.goldi_field.specs.Numbers.{IsFelt, sum_of, difference_of}
+use Rattle.goldi_field.specs.Numbers.{IsFelt}
 use Rattle.cairo_model.specs.Values.{Datum, number, place, Difference}
-use Rattle.cairo_model.specs.Machine.{Registers, value_arithmetic, field_arithmetic, RunsTo, last_of}
-use Rattle.cairo_model.specs.Pies.{PieRecord, KeepsRules, IsValueIn, segment_size, value_at, memory_of}
+use Rattle.cairo_model.specs.Machine.{Registers, value_arithmetic, RunsTo, last_of}
+use Rattle.cairo_model.specs.Pies.{IsValueIn, segment_size, memory_of}
 use Rattle.cairo_model.specs.FieldMemories.{FieldCell, cell_at}
-use Rattle.cairo_model.specs.Layouts.{Fits, base_of, relocated, relocated_state}
-use Rattle.cairo_model.specs.Acceptance.{CheckedRecord, AcceptedWith, HoldsNumbers, start_of, value_below}
-use Rattle.cairo_model.specs.Certificates.{CertRecord, SpanRecord}
-use Rattle.cairo_model.specs.MachineAcceptance.{MachineAccepts, SpanHolds, cell_below}
-use Rattle.relocator.specs.Relocations.{KeepsArithmetic, HasRelocated, RunsOverField}
-use Rattle.relocator.specs.Placing.{ArePlaced}
+use Rattle.cairo_model.specs.Layouts.{Fits, base_of, relocated}
+use Rattle.cairo_model.specs.Acceptance.{CheckedRecord, AcceptedWith, HoldsNumbers, start_of}
+use Rattle.cairo_model.specs.MachineAcceptance.{SpanHolds, cell_below}
+use Rattle.relocator.specs.Relocations.{KeepsArithmetic, HasRelocated}
 use Rattle.relocator.specs.Staying.{AreIn}
 use Rattle.relocator.specs.LoneCertificates.{stretch_of}
 use Rattle.relocator.proofs.Apart.{no_wrap}

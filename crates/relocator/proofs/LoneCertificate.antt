@@ -1,15 +1,15 @@
 -- The machine accepts the certificate of a PIE alone.
-use Rattle.std.proofs.Common.{◌≡◌, ℕ, ◌<◌, List, [], length, map, All, Option, Some, refl, sym, ap, subst, ◌∙◌, arith, lit<}
-use Rattle.cairo_model.specs.Values.{Datum, place}
+use Rattle.std.proofs.Common.{◌≡◌, ℕ, List, [], Some, refl, sym, ap, subst, ◌∙◌, arith, lit<}
+use Rattle.cairo_model.specs.Values.{Datum}
 use Rattle.cairo_model.specs.Machine.{Registers, field_arithmetic, RunsTo}
 use Rattle.cairo_model.specs.Pies.{PieRecord, KeepsRules, segment_size}
 use Rattle.cairo_model.specs.FieldMemories.{cell_at}
-use Rattle.cairo_model.specs.Layouts.{Fits, base_of, lone_bases, relocated, relocated_state}
+use Rattle.cairo_model.specs.Layouts.{Fits, lone_bases, relocated, relocated_state}
 use Rattle.cairo_model.specs.Acceptance.{CheckedRecord, AcceptedWith, start_of}
 use Rattle.cairo_model.specs.Certificates.{CertRecord, SpanRecord}
 use Rattle.cairo_model.specs.MachineAcceptance.{MachineAccepts, SpanHolds}
 use Rattle.relocator.specs.Relocations.{AreBases, KeepsArithmetic, RunsOverField}
-use Rattle.relocator.specs.LoneCertificates.{IsLoneCertificate, stretch_of}
+use Rattle.relocator.specs.LoneCertificates.{IsLoneCertificate}
 use Rattle.relocator.proofs.LoneAcceptance as lone
 
 module _ (arithmetic : (bases : List ℕ) → AreBases bases → KeepsArithmetic bases)

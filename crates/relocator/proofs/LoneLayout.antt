@@ -1,5 +1,5 @@
 -- The bases of the layout alone.
-use Rattle.std.proofs.Common.{◌≡◌, ◌≢◌, ℕ, zero, suc, ◌+◌, ◌^◌, ◌<◌, ◌≤◌, List, [], ◌∷◌, ◌⊎◌, inl, inr, length, sum, get_or, refl, sym, ap, subst, ◌∙◌, arith}
+use Rattle.std.proofs.Common.{◌≡◌, ℕ, zero, suc, ◌+◌, ◌<◌, ◌≤◌, List, [], ◌∷◌, inl, inr, length, sum, get_or, refl, ap, arith}
 use Rattle.std.proofs.lemmas.Bool.{cases_order}
 use Rattle.std.proofs.lemmas.List.Sums.{sum_by-cons}
 use Rattle.cairo_model.specs.Pies.{PieRecord, KeepsRules}
@@ -32,10 +32,10 @@ ends_below base (size ∷ sizes) (suc i) (suc j) lt in_range = ends_below (base 
 apart : (base : ℕ) (sizes : List ℕ) (s : ℕ) → s < length sizes → IsApart (bases_from base sizes) sizes s
 apart base sizes s here t there differ o q p r same =
     elim (cases_order s t) [
-      inl e ↦ differ e
-    | inr other ↦ elim other [
-        inl lt ↦ omega (arith, ends_below base sizes s t lt there, p, same)
-      | inr lt ↦ omega (arith, ends_below base sizes t s lt here, r, same)
+      | inl e ↦ differ e
+      | inr other ↦ elim other [
+        | inl lt ↦ omega (arith, ends_below base sizes s t lt there, p, same)
+        | inr lt ↦ omega (arith, ends_below base sizes t s lt here, r, same)
       ]
     ]
 

@@ -1,11 +1,11 @@
 -- What a look-up in the memory of a PIE finds.
-use Rattle.std.proofs.Common.{◌≡◌, ℕ, ◌+◌, ◌^◌, ◌<◌, ◌≤◌, ◌==◌, ◌&&◌, Bool, true, false, List, length, map, All, get_or, Option, Some, option_map, refl, sym, ap, ap₂, subst, ◌∙◌, arith}
+use Rattle.std.proofs.Common.{◌≡◌, ℕ, ◌<◌, ◌==◌, ◌&&◌, true, false, List, length, get_or, Some, option_map, refl, ap, ap₂, subst, arith}
 use Rattle.std.specs.List.{find, Contains}
 use Rattle.std.proofs.lemmas.Bool.Decides.{nat_tests}
 use Rattle.std.proofs.lemmas.List.Elements.{All-contains, All-get_or}
 use Rattle.std.proofs.lemmas.List.Sums.{get_or-le-sum_by}
 use Rattle.cairo_model.specs.Values.{Datum, number, place}
-use Rattle.cairo_model.specs.Pies.{MemoryCell, PieRecord, AreSizes, IsCellOf, IsValueIn, KeepsRules, Rise, memory_of, place_number, stands_at}
+use Rattle.cairo_model.specs.Pies.{MemoryCell, PieRecord, AreSizes, IsCellOf, IsValueIn, KeepsRules, memory_of, place_number, stands_at}
 use Rattle.cairo_model.proofs.Chains.{both_left, both_right}
 use Rattle.cairo_model.proofs.Searching.{TellsKey}
 use Rattle.relocator.specs.Relocations.{AllValuesIn}

@@ -1,5 +1,5 @@
 -- Relocated cells that are sorted are the cells of the memory, placed.
-use Rattle.std.proofs.Common.{◌≡◌, ℕ, ◌==◌, Bool, true, List, map, length, Option, Some, option_map, refl, sym, ap, ap₂, subst, ◌∙◌, arith}
+use Rattle.std.proofs.Common.{◌≡◌, ℕ, ◌==◌, true, List, map, Some, option_map, refl, sym, ap, ◌∙◌, arith}
 use Rattle.std.specs.List.{find, Contains, IsDistinct}
 use Rattle.std.specs.List.Sorted.{IsPermutation, IsNonDecreasingBy}
 use Rattle.std.proofs.lemmas.Bool.Decides.{nat_tests}
@@ -7,7 +7,7 @@ use Rattle.std.proofs.lemmas.List.Sorted.{IsPermutation-map, IsPermutation-sym, 
 use Rattle.std.proofs.lemmas.Map.Keys.{IsStrictlyIncreasing-from_distinct, IsDistinct-IsPermutation}
 use Rattle.goldi_field.specs.declared.Felt.{Felt}
 use Rattle.cairo_model.specs.Values.{Datum, place}
-use Rattle.cairo_model.specs.Pies.{MemoryCell, PieRecord, KeepsRules, memory_of}
+use Rattle.cairo_model.specs.Pies.{PieRecord, KeepsRules, memory_of}
 use Rattle.cairo_model.specs.FieldMemories.{FieldCell, field_cell, addresses, AddressesRise, cell_at}
 use Rattle.cairo_model.specs.Layouts.{relocated, relocated_cell}
 use Rattle.cairo_model.proofs.CellLemmas.{address_tells}

@@ -1,5 +1,5 @@
 -- The isolated run of a PIE, placed.
-use Rattle.std.proofs.Common.{◌≡◌, ℕ, List, map, length, Option, Some}
+use Rattle.std.proofs.Common.{ℕ, List, map, Option}
 use Rattle.cairo_model.specs.Pies.{PieRecord, KeepsRules}
 use Rattle.cairo_model.specs.FieldMemories.{FieldCell}
 use Rattle.cairo_model.specs.Layouts.{Fits, relocated_state}

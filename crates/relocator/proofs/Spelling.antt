@@ -1,10 +1,9 @@
 -- The certificate of a PIE alone can be written down.
-use Rattle.std.proofs.Common.{◌≡◌, ℕ, ◌^◌, ◌<◌, ◌≤◌, List, [], length, map, All, sym, ap, subst, ◌∙◌, arith}
+use Rattle.std.proofs.Common.{◌≡◌, ℕ, ◌^◌, ◌<◌, List, [], length, All, ap, ◌∙◌, arith}
 use Rattle.std.proofs.lemmas.List.{length-map}
 use Rattle.std.proofs.lemmas.List.Sorted.{length_permutation}
 use Rattle.cairo_model.specs.Acceptance.{CheckedRecord, AcceptedWith}
 use Rattle.cairo_model.specs.Certificates.{CertRecord, MarkRecord, HasSpelling}
-use Rattle.cairo_model.specs.FieldMemories.{FieldCell}
 use Rattle.cairo_model.specs.Machine.{Registers}
 use Rattle.cairo_model.specs.Layouts.{lone_bases, relocated_cell, relocated_state}
 use Rattle.relocator.specs.LoneCertificates.{IsLoneCertificate}

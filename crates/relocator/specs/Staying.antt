@@ -1,5 +1,5 @@
 -- The states of a run stay in the segments of its PIE.
-use Rattle.std.specs.Prelude.{ℕ, ◌≡◌, ◌<◌, List, All}
+use Rattle.std.specs.Prelude.{ℕ, ◌<◌, List, All}
 use Rattle.cairo_model.specs.Values.{Datum}
 use Rattle.cairo_model.specs.Machine.{Registers, value_arithmetic, RunsTo}
 use Rattle.cairo_model.specs.Pies.{MemoryCell, PieRecord, KeepsRules, IsValueIn, memory_of, segment_size}

@@ -39,11 +39,7 @@ pub fn relocate(alloc: Global, checked: &Checked, layout: &Layout) -> Result<Pla
     Ok(Placed { cells, states })
 }
 
-fn place_cells(
-    alloc: Global,
-    pie: &Pie,
-    bases: &[Felt],
-) -> Result<Vec<(Felt, Felt)>, AllocError>
+fn place_cells(alloc: Global, pie: &Pie, bases: &[Felt]) -> Result<Vec<(Felt, Felt)>, AllocError>
     requires fits { Fits (numbers bases.now) pie.now.sizes }
     requires rules { KeepsRules pie.now }
     ensures { IfOk result (λ out. ArePlaced (numbers bases.now) pie.now.cells (map field_cell out.items)) }

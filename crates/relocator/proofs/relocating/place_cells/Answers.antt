@@ -1,8 +1,7 @@
-use Rattle.std.proofs.Common.{◌≡◌, ◌==◌, ℕ, List, All, length, map, subst, sym, ap, ◌∙◌}
+use Rattle.std.proofs.Common.{◌≡◌, ◌==◌, ℕ, List, All, map, subst, sym, ap, ◌∙◌}
 use Rattle.std.specs.List.{IsDistinct}
 use Rattle.std.specs.List.Sorted.{IsPermutation}
-use Rattle.cairo_model.specs.declared.pie.PieCell.{PieCell}
-use Rattle.cairo_model.specs.Pies.{MemoryCell, PieRecord, IsCellOf}
+use Rattle.cairo_model.specs.Pies.{PieRecord, IsCellOf}
 use Rattle.cairo_model.specs.PieViews.{memory_cell}
 use Rattle.cairo_model.specs.FieldMemories.{FieldCell, field_cell, addresses}
 use Rattle.cairo_model.specs.Layouts.{relocated_cell}

@@ -1,9 +1,9 @@
-use Rattle.std.proofs.Common.{◌≡◌, ℕ, List, Option, map, rules, sym, ap, ap₂, subst, ◌∙◌}
+use Rattle.std.proofs.Common.{◌≡◌, ℕ, List, Option, map, rules, ap, ap₂, ◌∙◌}
 use Rattle.cairo_model.specs.Values.{Datum}
 use Rattle.cairo_model.specs.Machine.{Registers}
 use Rattle.cairo_model.specs.FieldMemories.{field_cell, cell_at}
 use Rattle.cairo_model.specs.Layouts.{relocated_state}
-use Rattle.cairo_model.specs.Views.{registers, field_registers}
+use Rattle.cairo_model.specs.Views.{field_registers}
 use Rattle.relocator.specs.Lists.{numbers}
 use Rattle.relocator.specs.Placing.{ArePlaced, HasCells, RunsAsPlaced}
 use Rattle.relocator.proofs.RunsPlaced.{starts_inside, runs_as_placed}
