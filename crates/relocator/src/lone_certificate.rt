@@ -15,12 +15,13 @@ use cairo_model::{Cells, Cert, Checked, Kind, Span, felt_of};
 use goldi_field::Felt;
 use std::alloc::{AllocError, Global};
 
-/// The certificate of a PIE alone: its isolated run where the layout alone puts it. The machine accepts it.
+/// The certificate of a PIE alone: its isolated run where the layout alone puts it (docs/CERTIFICATE.md).
 pub fn lone_cert(alloc: Global, checked: &Checked) -> Result<Cert, AllocError>
     ensures certificate { IfOk result (λ cert. IsLoneCertificate checked.now cert) }
     ensures accepted { IfOk result (λ cert. segment_size checked.now.pie 3 ≡ 0 → segment_size checked.now.pie 4 ≡ 0 → MachineAccepts cert) }
 {
     lone_certificates_hold();
+    // That the PIE is accepted, as `alone` asks, is what this ensures.
     let _run = checked.states();
     let layout = alone(alloc, checked.pie())?;
     let placed = relocate(alloc, checked, &layout)?;
