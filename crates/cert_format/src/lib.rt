@@ -9,7 +9,9 @@ mod order;
 mod parts;
 mod reading;
 mod refusal;
+mod writing;
 
 pub use laws::{one_certificate, reads_back};
 pub use reading::read_cert;
 pub use refusal::CertRefusal;
+pub use writing::write_cert;
