@@ -22,7 +22,7 @@ fn five_with(alloc: Global, at: usize, bytes: &[u8]) -> Result<Vec<u8>, Fail> {
     let mut file = Vec::new(alloc);
     file.extend_from_slice(five.get(..at).unwrap_or(&[]))?;
     file.extend_from_slice(bytes)?;
-    file.extend_from_slice(five.get(at + bytes.len()..).unwrap_or(&[]))?;
+    file.extend_from_slice(five.get(at.saturating_add(bytes.len())..).unwrap_or(&[]))?;
     Ok(file)
 }
 
@@ -31,7 +31,7 @@ fn five_with_metadata(alloc: Global, text: &[u8]) -> Result<Vec<u8>, Fail> {
     let five = decode(alloc, FIVE)?;
     let mut file = Vec::new(alloc);
     file.extend_from_slice(five.get(..8).unwrap_or(&[]))?;
-    file.extend_from_slice(&(text.len() as u32).to_be_bytes())?;
+    file.extend_from_slice(&u32::try_from(text.len()).unwrap_or(0).to_be_bytes())?;
     file.extend_from_slice(text)?;
     file.extend_from_slice(five.get(68..).unwrap_or(&[]))?;
     Ok(file)
