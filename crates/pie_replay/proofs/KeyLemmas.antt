@@ -1,7 +1,6 @@
 -- Cells by their place numbers.
-use Rattle.std.proofs.Common.{◌≡◌, ℕ, ◌<◌, ◌^◌, ◌&&◌, ◌==◌, zero, suc, Bool, true, false, List, [], ◌∷◌, length, map, get_or, arith}
+use Rattle.std.proofs.Common.{◌≡◌, ℕ, ◌<◌, ◌^◌, ◌&&◌, ◌==◌, zero, suc, false, List, [], ◌∷◌, length, map, get_or, arith}
 use Rattle.std.proofs.lemmas.Bool.Decides.{nat_tests}
-use Rattle.std.proofs.lemmas.List.{get_or-map, length-map}
 use Rattle.cairo_model.specs.declared.pie.PieCell.{PieCell}
 use Rattle.cairo_model.specs.Pies.{MemoryCell, place_number, stands_at}
 use Rattle.cairo_model.specs.PieViews.{memory_cell}

@@ -1,6 +1,6 @@
 -- What stands against an acceptance.
-use Rattle.std.proofs.Common.{◌≡◌, ◌≢◌, ℕ, ◌<◌, ◌+◌, List, length, slice_index, Option, Some, Err, sym, subst, arith}
-use Rattle.cairo_model.specs.Acceptance.{HoldsNumbers, IsolatedRun, IsHome, AcceptedWith, AcceptedAlone, start_of}
+use Rattle.std.proofs.Common.{◌≡◌, ◌≢◌, ℕ, ◌<◌, ◌+◌, List, length, slice_index, Some, sym, subst, arith}
+use Rattle.cairo_model.specs.Acceptance.{HoldsNumbers, IsolatedRun, IsHome, start_of}
 use Rattle.cairo_model.specs.Machine.{Registers, value_arithmetic, RunsTo}
 use Rattle.cairo_model.specs.Pies.{MemoryCell, PieRecord, memory_of, value_at}
 use Rattle.cairo_model.specs.Values.{Datum, number}

@@ -1,5 +1,5 @@
 -- Runs that fail on the way.
-use Rattle.std.specs.Prelude.{◌≡◌, ◌+◌, ◌<◌, ℕ, List, length, Option}
+use Rattle.std.specs.Prelude.{◌≡◌, ◌+◌, ℕ, List, length, Option}
 use Rattle.cairo_model.specs.Machine.{Arithmetic, Registers, StepFaultOf, RunsTo}
 use Rattle.cairo_model.specs.declared.fault.StepFault.{StepFault}
 

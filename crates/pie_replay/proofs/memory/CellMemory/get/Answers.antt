@@ -1,4 +1,4 @@
-use Rattle.std.proofs.Common.{◌≡◌, List, Option, Some, None, option_map, map, get_or, sym, subst, ap, ◌∙◌}
+use Rattle.std.proofs.Common.{◌≡◌, List, Option, Some, None, option_map, get_or, sym, subst, ap}
 use Rattle.cairo_model.specs.Keys.{IsKeyAt, IsGapFor}
 use Rattle.cairo_model.specs.Pies.{MemoryCell, place_number, place_numbers, value_at, stands_at}
 use Rattle.cairo_model.specs.PieViews.{memory_cell}

@@ -1,6 +1,6 @@
 use Rattle.std.proofs.Common.{arith, rules}
 use Rattle.shared_prover_cli.proofs.WordLemmas.{map-one_word}
-use Rattle.shared_prover_cli.proofs.run.asks_to_replay.Goals as goal
+use Rattle.shared_prover_cli.proofs.command.command_in.Goals as goal
 
 -- the only word is the whole list
 pub returns-in-len1 : goal.returns-in-len1

@@ -1,6 +1,6 @@
 use Rattle.std.proofs.Common.{refl, ap, ◌∙◌, Ok, Err}
 use Rattle.shared_prover_cli.specs.Texts.{admitted_text}
-use Rattle.shared_prover_cli.proofs.replay.answer_to.Goals as goal
+use Rattle.shared_prover_cli.proofs.replay.replay_answer.Goals as goal
 
 -- the line of the PIE that was admitted
 pub returns-in_ok-admitted_line-in-Ok : goal.returns-in_ok-admitted_line-in-Ok
