@@ -11,7 +11,9 @@ mod reading;
 mod refusal;
 #[cfg(test)]
 mod tests;
+mod writing;
 
 pub use laws::{one_certificate, reads_back};
 pub use reading::read_cert;
 pub use refusal::CertRefusal;
+pub use writing::write_cert;

@@ -1,7 +1,7 @@
 //! The certificate of a program that writes 5 is a worked example, and its changed copies have answers that a reader
 //! in Python gave.
 
-use crate::{CertRefusal, read_cert};
+use crate::{CertRefusal, read_cert, write_cert};
 use cairo_model::{End, FieldState, Kind, felt_of};
 use std::alloc::{AllocError, Global};
 use std::test::Fail;
@@ -141,5 +141,33 @@ fn the_first_refusal_is_answered(rt: HostRuntime) -> Result<(), Fail> {
             Some(End::Refused(answer))
         );
     }
+    Ok(())
+}
+
+// A certificate of a batch with one task, whose two bases are 1 and the largest number.
+fn batch(alloc: Global) -> Result<Vec<u8>, AllocError> {
+    let (_, back) = FIVE.split_at(61);
+    let mut bytes = changed(alloc, &[(8, 1)])?;
+    bytes.truncate(57);
+    bytes.extend_from_slice(&[0, 0, 0, 1, 0, 0, 0, 3, 0, 0, 0, 2])?;
+    bytes.extend_from_slice(&[0, 0, 0, 0, 0, 0, 0, 1])?;
+    bytes.extend_from_slice(&[0xff, 0xff, 0xff, 0xff, 0, 0, 0, 0])?;
+    bytes.extend_from_slice(back)?;
+    Ok(bytes)
+}
+
+fn written_back(alloc: Global, bytes: &[u8]) -> Result<Option<Vec<u8>>, AllocError> {
+    match read_cert(alloc, bytes) {
+        Ok(cert) => Ok(Some(write_cert(alloc, &cert)?)),
+        Err(_) => Ok(None),
+    }
+}
+
+#[test]
+fn a_certificate_is_written_back(rt: HostRuntime) -> Result<(), Fail> {
+    let five = FIVE.as_slice().to_vec(rt.alloc())?;
+    let batch = batch(rt.alloc())?;
+    assert_eq!(rt; written_back(rt.alloc(), five.as_slice())?, Some(five));
+    assert_eq!(rt; written_back(rt.alloc(), batch.as_slice())?, Some(batch));
     Ok(())
 }
