@@ -9,6 +9,8 @@ mod order;
 mod parts;
 mod reading;
 mod refusal;
+#[cfg(test)]
+mod tests;
 mod writing;
 
 pub use laws::{one_certificate, reads_back};
