@@ -1,0 +1,9 @@
+pub mod Pigeonhole
+pub mod Seats
+pub mod Numbers
+pub mod Lines
+pub mod Logs
+pub mod Slots
+pub mod Turns
+pub mod Allowed
+pub mod Begun
