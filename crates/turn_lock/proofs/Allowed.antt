@@ -30,7 +30,7 @@ pub alone_carried : {S : Type 0} (c : List (ℕ × S)) (p : ℕ × S) → c ≡ 
 alone_carried c p is = is ∙ ap (λ xs. p ∷ rest xs) (sym is)
 
 module _ {S N : Type 0} (journal : S → List (ℕ × N)) (turns width : S → ℕ) where
-  at_lock : (passes id : ℕ) (s : State (Option S) (View N)) (r : Standing journal turns width passes s) (v : View N) → get_elem? s.views id ≡ some v → At r.lock.views id v
+  pub at_lock : (passes id : ℕ) (s : State (Option S) (View N)) (r : Standing journal turns width passes s) (v : View N) → get_elem? s.views id ≡ some v → At r.lock.views id v
   at_lock passes id s r v at = ap (λ (vs : List (View N)). get_elem? vs id) (sym r.views) ∙ at
 
   pub draws : (passes n id : ℕ) (me : Hold S N) → IsAtRest me.0 → Allows (Standing journal turns width passes) n id me 0 (λ x. (x + 1) % 2 ^ 64) (drew (step n 0 1 0 none) me)

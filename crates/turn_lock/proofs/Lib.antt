@@ -7,3 +7,8 @@ pub mod Slots
 pub mod Turns
 pub mod Allowed
 pub mod Begun
+pub mod Deals
+pub mod Meets
+pub mod Gathers
+pub mod Closes
+pub mod Permitted

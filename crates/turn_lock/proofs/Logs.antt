@@ -1,5 +1,5 @@
 -- What a view knows of the log, as the view changes and as the log goes on.
-use Rattle.std.proofs.Common.{◌≡◌, ◌≢◌, ℕ, zero, suc, ◌+◌, ◌<◌, ◌⊎◌, ◌==◌, Bool, true, false, cond, if◌then◌else◌, nat_lt, List, [], ◌∷◌, ◌++◌, map, length, filter, All, Contains, sym, refl, ap, ◌∙◌, subst, inl, inr, ⊎_elim, arith, append_assoc, append-nil, length-append}
+use Rattle.std.proofs.Common.{◌≡◌, ◌≢◌, ℕ, zero, suc, ◌+◌, ◌<◌, ◌≤◌, ◌⊎◌, ◌==◌, Bool, true, false, cond, if◌then◌else◌, nat_lt, List, [], ◌∷◌, ◌++◌, map, length, filter, All, Contains, slice_index_or, sym, refl, ap, ◌∙◌, subst, inl, inr, ⊎_elim, arith, append_assoc, append-nil, length-append}
 use mathlib.Core.Option.{some, some-injective, some-ne-none}
 use lib.ListN.{get_elem?}
 use Rattle.std.proofs.lemmas.List.Elements.{filter-append}
@@ -19,6 +19,63 @@ module _ {N : Type 0} where
 
   pub prefix_nil : (log : List (ℕ × N)) → IsPrefix [] log
   prefix_nil log = (log, refl)
+
+  -- a beginning that is as long as the whole is the whole
+  prefix_whole : (xs log : List (ℕ × N)) → IsPrefix xs log → length log ≤ length xs → xs ≡ log
+  prefix_whole xs log p long = whole p.0 (omega (arith, ap length p.1, length-append xs p.0)) p.1
+    where
+      whole : (rest : List (ℕ × N)) → length rest ≡ 0 → log ≡ xs ++ rest → xs ≡ log
+      whole [] none is = sym (append-nil xs) ∙ sym is
+      whole (e ∷ es) none is = absurd (omega arith)
+
+  prefix_short : (xs log : List (ℕ × N)) → IsPrefix xs log → length xs ≤ length log
+  prefix_short xs log p = omega (arith, ap length p.1, length-append xs p.0)
+
+  pub longer_left : (xs ys log : List (ℕ × N)) → xs ≡ log → IsPrefix ys log → longer xs ys ≡ log
+  longer_left xs ys log is p = by_test (nat_lt (length xs) (length ys)) refl
+    where
+      by_test : (b : Bool) → b ≡ nat_lt (length xs) (length ys) → (if b then ys else xs) ≡ log
+      by_test true test = let short = prefix_short ys log p in let same = ap length is in absurd (grind (arith, nat_tests))
+      by_test false test = is
+
+  pub longer_right : (xs ys log : List (ℕ × N)) → IsPrefix xs log → ys ≡ log → longer xs ys ≡ log
+  longer_right xs ys log p is = by_test (nat_lt (length xs) (length ys)) refl
+    where
+      by_test : (b : Bool) → b ≡ nat_lt (length xs) (length ys) → (if b then ys else xs) ≡ log
+      by_test true test = is
+      by_test false test = prefix_whole xs log p (let same = ap length is in grind (arith, nat_tests))
+
+  -- of two beginnings of one list, the shorter begins the longer
+  front_of : (xs ys rest more : List (ℕ × N)) → xs ++ rest ≡ ys ++ more → length xs ≤ length ys → IsPrefix xs ys
+  front_of [] ys rest more is short = (ys, refl)
+  front_of (x ∷ xs) [] rest more is short = absurd (omega arith)
+  front_of (x ∷ xs) (y ∷ ys) rest more is short =
+      let p = front_of xs ys rest more (ap tail is) (omega arith) in
+      (p.0, cons_same x y (xs ++ rest) (ys ++ more) is ys (xs ++ p.0) p.1)
+    where
+      tail : List (ℕ × N) → List (ℕ × N)
+      tail [] = []
+      tail (e ∷ es) = es
+
+      cons_same : (a b : ℕ × N) (es fs : List (ℕ × N)) → a ∷ es ≡ b ∷ fs → (cs ds : List (ℕ × N)) → cs ≡ ds → b ∷ cs ≡ a ∷ ds
+      cons_same a b es fs is cs ds same = cc
+
+  begins_longer_left : (xs ys log : List (ℕ × N)) → IsPrefix xs log → IsPrefix ys log → IsPrefix xs (longer xs ys)
+  begins_longer_left xs ys log p q = by_test (nat_lt (length xs) (length ys)) refl
+    where
+      by_test : (b : Bool) → b ≡ nat_lt (length xs) (length ys) → IsPrefix xs (if b then ys else xs)
+      by_test true test = front_of xs ys p.0 q.0 (sym p.1 ∙ q.1) (grind (arith, nat_tests))
+      by_test false test = prefix_itself xs
+
+  begins_longer_right : (xs ys log : List (ℕ × N)) → IsPrefix xs log → IsPrefix ys log → IsPrefix ys (longer xs ys)
+  begins_longer_right xs ys log p q = by_test (nat_lt (length xs) (length ys)) refl
+    where
+      by_test : (b : Bool) → b ≡ nat_lt (length xs) (length ys) → IsPrefix ys (if b then ys else xs)
+      by_test true test = prefix_itself ys
+      by_test false test = front_of ys xs q.0 p.0 (sym q.1 ∙ p.1) (grind (arith, nat_tests))
+
+  pub begins_longer : (xs ys log : List (ℕ × N)) → IsPrefix xs log → IsPrefix ys log → IsPrefix xs (longer xs ys) × IsPrefix ys (longer xs ys)
+  begins_longer xs ys log p q = (begins_longer_left xs ys log p q, begins_longer_right xs ys log p q)
 
   pub longer_begins : (xs ys log : List (ℕ × N)) → IsPrefix xs log → IsPrefix ys log → IsPrefix (longer xs ys) log
   longer_begins xs ys log a b = elim (nat_lt (length xs) (length ys)) as (λ t. IsPrefix (if t then ys else xs) log) [ true ↦ b | false ↦ a ]
@@ -95,3 +152,16 @@ module _ {N : Type 0} where
   longest_begins seen log [] begins each = begins
   longest_begins seen log (xs ∷ xss) begins each =
       longest_begins (longer seen xs) log xss (longer_begins seen xs log begins (each 0 [] (omega arith))) (λ k d h. each (suc k) d (omega arith))
+
+  -- where the log is among beginnings of it, it is the longest of them
+  pub longest_whole : (seen log : List (ℕ × N)) (heard : List (List (ℕ × N))) → IsPrefix seen log → All (λ xs. IsPrefix xs log) heard → (seen ≡ log) ⊎ Contains heard log → longest seen heard ≡ log
+  longest_whole seen log [] begins each one = ⊎_elim (λ (is : seen ≡ log). is) (λ (c : Contains [] log). let h = c.1 in absurd (omega arith)) one
+  longest_whole seen log (xs ∷ xss) begins each one =
+      longest_whole (longer seen xs) log xss (longer_begins seen xs log begins (each 0 [] (omega arith))) (λ k d h. each (suc k) d (omega arith)) (⊎_elim
+      (λ (is : seen ≡ log). inl (longer_left seen xs log is (each 0 [] (omega arith))))
+      (λ (c : Contains (xs ∷ xss) log). by_place c.0 c.1 c.2)
+      one)
+    where
+      by_place : (k : ℕ) → k < length (xs ∷ xss) → slice_index_or (xs ∷ xss) k log ≡ log → (longer seen xs ≡ log) ⊎ Contains xss log
+      by_place zero h is = inl (longer_right seen xs log begins is)
+      by_place (suc k) h is = inr (k, omega arith, is)

@@ -1,5 +1,5 @@
 -- The numbers of passes, and why no more passes than those stand in line.
-use Rattle.std.proofs.Common.{◌≡◌, ◌≢◌, ℕ, zero, suc, ◌+◌, ◌<◌, ◌≤◌, ◌⊎◌, List, [], ◌∷◌, ◌++◌, map, length, get_or, set, All, Contains, sym, refl, ap, ◌∙◌, subst, inl, inr, ⊎_elim, arith}
+use Rattle.std.proofs.Common.{◌≡◌, ◌≢◌, ℕ, zero, suc, ◌+◌, ◌<◌, ◌≤◌, ◌⊎◌, List, [], ◌∷◌, ◌++◌, map, length, get_or, set, All, Contains, slice_index_or, sym, refl, ap, ◌∙◌, subst, inl, inr, ⊎_elim, arith}
 use mathlib.Core.Option.{some, some-injective, some-ne-none}
 use lib.ListN.{get_elem?}
 use Rattle.std.proofs.lemmas.List.{get_or_default}
@@ -12,7 +12,7 @@ use Rattle.turn_lock.specs.declared.view.View.{View}
 use Rattle.turn_lock.specs.Views.{IsPass, HasTicket, parts_of, parts_or, numbers_of, numbers_or, own_part}
 use Rattle.turn_lock.specs.Locks.{At, Apart, Someone, Everyone, StandsFor, Deals, Numbered, InLine}
 use Rattle.turn_lock.proofs.Pigeonhole.{at_most}
-use Rattle.turn_lock.proofs.Seats.{everyone_set, someone_set, apart_less, one_at}
+use Rattle.turn_lock.proofs.Seats.{everyone_set, everyone_new, someone_set, someone_new, apart_less, apart_new, one_at}
 
 pub resting_pass : (st : Stage) → st ≡ Resting → IsPass st
 resting_pass st is = subst IsPass (sym is) tt
@@ -23,6 +23,13 @@ ticket_pass (Waiting u) t has = tt
 ticket_pass (Called u) t has = tt
 ticket_pass Note t has = absurd has
 ticket_pass Spent t has = absurd has
+
+pub contains_one : (x n : ℕ) → Contains (x ∷ []) n → x ≡ n
+contains_one x n c = at_place c.0 c.1 c.2
+  where
+    at_place : (k : ℕ) → k < 1 → slice_index_or (x ∷ []) k n ≡ n → x ≡ n
+    at_place zero h is = is
+    at_place (suc k) h is = absurd (omega arith)
 
 module _ {N : Type 0} where
   -- a pass stands for its own number
@@ -53,6 +60,20 @@ module _ {N : Type 0} where
         differ = apart_less StandsFor views me v w at stands r.differ;
         unused = unused;
       }
+
+  -- a new view that is no pass
+  pub numbered_new : (passes size most : ℕ) (log : List (ℕ × N)) (views : List (View N)) (w : View N) → (IsPass w.stage → ⊥) → Numbered passes size most log views → Numbered passes size most log (views ++ w ∷ [])
+  numbered_new passes size most log views w no_pass r = record {
+    few = r.few;
+    within = r.within;
+    greatest = someone_new (λ u. IsPass u.stage × (u.made ≡ most)) views w r.greatest;
+    one_width = everyone_new (λ u. IsPass u.stage → u.width ≡ size) views w (λ pass. absurd (no_pass pass)) r.one_width;
+    made = everyone_new (λ u. Deals u tt → u.made ≡ most) views w (λ d. absurd (no_pass d.0)) r.made;
+    dealer = apart_new Deals views w (λ k u x found mine theirs. no_pass mine.0) r.dealer;
+    below = everyone_new (λ u. (n : ℕ) → StandsFor u n → n < most) views w (λ n s. absurd (no_pass s.0)) r.below;
+    differ = apart_new StandsFor views w (λ k u x found mine theirs. no_pass mine.0) r.differ;
+    unused = r.unused;
+  }
 
   number_at : List (View N) → ℕ → ℕ
   number_at [] j = 0

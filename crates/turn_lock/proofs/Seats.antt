@@ -86,3 +86,35 @@ module _ {N : Type 0} where
       (λ (is_too : (k ≡ length vs) × (w ≡ b)). is.0 ∙ sym is_too.0)
       (at_end vs w b k at_k))
       (at_end vs w a j at_j)
+
+  -- A pass takes in another, whose seat is spent: what holds of someone
+  pub someone_joined : (P : View N → Type 0) (vs : List (View N)) (me other : ℕ) (v w both gone : View N) → At vs me v → At vs other w → other ≢ me → (P v → P both) → (P w → P both)
+      → Someone P vs → Someone P (set (set vs other gone) me both)
+  someone_joined P vs me other v w both gone at at_other differ to to_other one =
+      let us = set vs other gone in
+      let at_me : At us me v = set_else vs other me gone (λ same. differ (sym same)) ∙ at in
+      let here = set_here us me both (there us me v at_me) in
+      dite (ℕ_discrete one.0 me)
+      (λ is. (me, both, here, to (subst P (one_at vs one.0 me one.1 v one.2 at is) one.3)))
+      (λ not_me. dite (ℕ_discrete one.0 other)
+      (λ is. (me, both, here, to_other (subst P (one_at vs one.0 other one.1 w one.2 at_other is) one.3)))
+      (λ not_other. (one.0, one.1, set_else us me one.0 both not_me ∙ set_else vs other one.0 gone not_other ∙ one.2, one.3)))
+
+  -- what holds of everyone
+  pub everyone_joined : (P : View N → Type 0) (vs : List (View N)) (me other : ℕ) (both gone : View N) → P both → P gone → Everyone P vs → Everyone P (set (set vs other gone) me both)
+  everyone_joined P vs me other both gone mine none old =
+      everyone_set P (set vs other gone) me both mine (λ k u not_me found. everyone_set P vs other gone none (λ j z not_other there. old j z there) k u found)
+
+  -- and what tells the seats apart
+  pub apart_joined : {X : Type 0} (R : View N → X → Type 0) (vs : List (View N)) (me other : ℕ) (v w both gone : View N) → At vs me v → At vs other w
+      → ((x : X) → R both x → R v x ⊎ R w x) → ((x : X) → R gone x → ⊥) → Apart R vs → Apart R (set (set vs other gone) me both)
+  apart_joined {X} R vs me other v w both gone at at_other either free old =
+      apart_set R (set vs other gone) me both (λ k u x not_me found mine theirs.
+      ⊎_elim
+      (λ (is : (k ≡ other) × (gone ≡ u)). free x (subst (λ (z : View N). R z x) (sym is.1) theirs))
+      (λ (not_other : (k ≢ other) × At vs k u). ⊎_elim
+      (λ (of_v : R v x). not_me (old k me u v x not_other.1 at theirs of_v))
+      (λ (of_w : R w x). not_other.0 (old k other u w x not_other.1 at_other theirs of_w))
+      (either x mine))
+      (at_set vs other k gone u found))
+      (apart_less R vs other w gone at_other (λ x none. absurd (free x none)) old)

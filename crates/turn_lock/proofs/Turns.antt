@@ -11,7 +11,7 @@ use Rattle.turn_lock.specs.declared.view.Stage.TheVariants.{Resting, Waiting, Ca
 use Rattle.turn_lock.specs.declared.view.View.{View}
 use Rattle.turn_lock.specs.Journals.{entries_by, IsPrefix, IsAtMostOne}
 use Rattle.turn_lock.specs.Views.{IsPass, HasTicket, IsAtRest, waiting, called, raised}
-use Rattle.turn_lock.specs.Locks.{Lock, At, Everyone, Someone, StandsFor, Knows, Seen, AtHome, Away, Rule}
+use Rattle.turn_lock.specs.Locks.{Lock, At, Everyone, Someone, StandsFor, Knows, Saw, Seen, AtHome, Away, Rule}
 use Rattle.turn_lock.specs.Steps.{Draw, Look, Raise, drawn, taken, raises}
 use Rattle.turn_lock.proofs.Seats.{there, one_at, everyone_set, someone_set}
 use Rattle.turn_lock.proofs.Numbers.{resting_pass, ticket_pass, numbered_same, line_at_most, stands_for_own}
@@ -45,7 +45,7 @@ module _ {S N : Type 0} (journal : S → List (ℕ × N)) (turns width : S → �
     in_line = line_draw l.ticket l.serving r.line l.views seat v d.at (λ t. no_ticket v.stage t d.rests.rests) r.in_line;
     served = everyone_set (λ u. (t : ℕ) → u.stage ≡ Called t → t ≡ l.serving) l.views seat w (λ t is. absurd (waiting_not_called (Waiting l.ticket) l.ticket refl t is)) (λ k u other found. r.served k u found);
     seen = record {
-      longest = someone_set (λ u. u.seen ≡ r.log) l.views seat v w d.at (λ h. h) r.seen.longest;
+      longest = someone_set (Saw r.log) l.views seat v w d.at (λ h. h) r.seen.longest;
       knows = everyone_set (Knows r.log) l.views seat w (let k = r.seen.knows seat v d.at in record { seen = k.seen; heard = k.heard; parts = λ _. k.parts (resting_pass v.stage d.rests.rests) }) (λ k u other found. r.seen.knows k u found);
     };
     slot = slot_same journal turns width r.size r.log l (drawn l seat v) seat v w d.at (resting_not_called v.stage d.rests.rests) (waiting_not_called (Waiting l.ticket) l.ticket refl) refl refl refl r.slot;
@@ -107,7 +107,7 @@ module _ {S N : Type 0} (journal : S → List (ℕ × N)) (turns width : S → �
         in_line = line_same l.ticket l.serving r.line l.views seat v w at (λ u. waits_for v.stage t u waits) has r.in_line;
         served = everyone_set (λ u. (x : ℕ) → u.stage ≡ Called x → x ≡ l.serving) l.views seat w (λ x is. sym (called_one t x is) ∙ sym due) (λ k u other found. r.served k u found);
         seen = record {
-          longest = (seat, w, here, log_is);
+          longest = (seat, w, here, inl log_is);
           knows = everyone_set (Knows r.log) l.views seat w
               (knows_alone r.log w alone.0 (subst (λ (xs : List (ℕ × N)). IsPrefix xs r.log) (sym log_is) (prefix_itself r.log)) (nothing_heard r.log v.heard alone.1) (own_entries r.log v pass alone.0 (r.seen.knows seat v at)))
               (λ k u other found. r.seen.knows k u found);
@@ -159,7 +159,7 @@ module _ {S N : Type 0} (journal : S → List (ℕ × N)) (turns width : S → �
         in_line = left.1;
         served = λ k u found t is. absurd (not_called k u found t is);
         seen = record {
-          longest = (seat, w, here, refl);
+          longest = (seat, w, here, inl refl);
           knows = everyone_set (Knows (journal y)) l.views seat w
               (knows_alone (journal y) w alone.0 (prefix_itself (journal y)) (nothing_heard (journal y) v.heard alone.1) mine)
               (λ k u other found. subst (λ (xs : List (ℕ × N)). Knows xs u) (sym log_is) (knows_more v.number r.log added u d.one (λ theirs stands. other (r.numbered.differ k seat u v v.number found d.at (theirs, stands) own)) (r.seen.knows k u found)));

@@ -69,9 +69,13 @@ module _ {N : Type 0} where
     pub heard : All (λ xs. IsPrefix xs log) v.heard
     pub parts : IsPass v.stage → (i : ℕ) (p : Part N) → get_elem? (parts_of v) i ≡ some p → IsPrefix p.seen log × (entries_by p.number log ≡ p.mine)
 
+  -- the view has seen the list, or a note says it
+  abbrev pub Saw : List (ℕ × N) → View N → Type 0
+  Saw xs v = (v.seen ≡ xs) ⊎ Contains v.heard xs
+
   -- the log is the longest list that was seen
   pub record Seen (log : List (ℕ × N)) (views : List (View N)) : Type 0 where
-    pub longest : Someone (λ v. v.seen ≡ log) views
+    pub longest : Someone (Saw log) views
     pub knows : Everyone (Knows log) views
 
   -- a pass that has a ticket has taken in no other pass, and keeps no note

@@ -1,5 +1,5 @@
 -- A pass as contracts see it, and what a turn does.
-use Rattle.std.specs.Prelude.{◌≡◌, ℕ, List, [], ◌++◌}
+use Rattle.std.specs.Prelude.{◌≡◌, ℕ, List, [], ◌++◌, map, Contains}
 use Rattle.atomic_table.specs.Seated.{TableId}
 use Rattle.turn_lock.specs.Journals.{entries_by, IsPrefix, IsAtMostOne}
 
@@ -15,6 +15,15 @@ pub record Token (N : Type 0) : Type 0 where
 pub record Name : Type 0 where
   pub lock : TableId
   pub passes : ℕ
+
+module _ {N : Type 0} where
+  -- a pass of this lock, with this number, that has seen nothing
+  abbrev pub fresh : TableId → ℕ → ℕ → Token N
+  fresh lock width number = record { lock = lock; number = number; width = width; seen = []; mine = [] }
+
+  -- the number is that of one of the passes
+  abbrev pub IsNumberOf : List (Token N) → ℕ → Type 0
+  IsNumberOf passes number = Contains (map (λ p. p.number) passes) number
 
 module _ {S N : Type 0} (journal : S → List (ℕ × N)) (width : S → ℕ) where
   -- A pass took a turn. The change was made to a value of the pass's width, whose journal begins with all that the pass had seen and has no other entries of its number than its own. The pass has then seen the journal after the change, and has the entry that was added, if one was.

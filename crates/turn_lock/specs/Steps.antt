@@ -1,8 +1,8 @@
 -- The atomic steps of the lock, by kinds. Each is a relation between the lock before and after it.
-use Rattle.std.specs.Prelude.{◌≡◌, ◌≢◌, ℕ, ◌+◌, ◌%◌, ◌^◌, ◌<◌, Option, Some, None, List, [], ◌∷◌, ◌++◌, slice_set}
+use Rattle.std.specs.Prelude.{◌≡◌, ◌≢◌, ℕ, ◌+◌, ◌%◌, ◌^◌, ◌<◌, Option, Some, None, List, [], ◌∷◌, ◌++◌, Contains, slice_set}
 use mathlib.Core.Option.{some, none}
 use Rattle.turn_lock.specs.Journals.{IsAtMostOne, IsPrefix, entries_by}
-use Rattle.turn_lock.specs.Views.{IsAtRest, waiting, called, raised, dealt, next_pass, note_of, spent, hearing, settled, gathered}
+use Rattle.turn_lock.specs.Views.{IsAtRest, waiting, called, raised, dealt, next_pass, note_of, spent, hearing, settled, gathered, numbers_of}
 use Rattle.turn_lock.specs.Locks.{Lock, At}
 use Rattle.turn_lock.specs.declared.view.Stage.TheVariants.{Resting, Waiting, Called, Note}
 use Rattle.turn_lock.specs.declared.view.View.{View}
@@ -84,6 +84,13 @@ module _ {S N : Type 0} where
     pub rests_too : IsAtRest taken_in
     pub becomes : l' ≡ with_view (with_view l seat (gathered view taken_in)) other spent
 
+  -- 8. The table ends, once a resting pass stands for every number.
+  pub record Close (passes seat : ℕ) (l : Lock S N) : Type 0 where
+    pub view : View N
+    pub at : At l.views seat view
+    pub rests : view.stage ≡ Resting
+    pub all : (n : ℕ) → n < passes → Contains (numbers_of view) n
+
   -- 9. Copies what a pass has seen into a note, with a seat of its own;
   pub record Copy (seat : ℕ) (l l' : Lock S N) : Type 0 where
     pub view : View N
@@ -99,6 +106,7 @@ module _ {S N : Type 0} where
     pub apart : other ≢ seat
     pub rests : IsAtRest view
     pub is_note : note.stage ≡ Note
+    pub quiet_note : note.heard ≡ []
     pub becomes : l' ≡ with_view (with_view l seat (hearing view note)) other spent
 
   -- and then has seen the longer of them.

@@ -1,8 +1,8 @@
 -- The lock in a table of atomic words and slots, and what each step tells its caller.
 use Rattle.std.specs.Prelude.{◌≡◌, ◌≢◌, ℕ, ◌+◌, Option, Some, List, [], ◌∷◌, ◌++◌}
 use Rattle.atomic_table.specs.Table.{State, Me, Step, rest}
-use Rattle.turn_lock.specs.Journals.{entries_by, IsPrefix}
-use Rattle.turn_lock.specs.Views.{waiting, called, raised}
+use Rattle.turn_lock.specs.Journals.{entries_by, IsPrefix, longer}
+use Rattle.turn_lock.specs.Views.{waiting, called, raised, settled}
 use Rattle.turn_lock.specs.Locks.{Lock, Rule}
 use Rattle.turn_lock.specs.declared.view.Stage.TheVariants.{Waiting}
 use Rattle.turn_lock.specs.declared.view.View.{View}
@@ -15,6 +15,10 @@ module _ {S N : Type 0} where
   -- a ticket was drawn
   abbrev pub drew : Step (Option S) → Hold S N → ℕ → Hold S N → Type 0
   drew _ m found m' = m' ≡ (waiting m.0 found, m.1)
+
+  -- the longer of what was seen and what a note says is seen, and both are beginnings of it
+  abbrev pub learned : Step (Option S) → Hold S N → ℕ → Hold S N → Type 0
+  learned _ m _ m' = (m' ≡ (settled m.0, m.1)) × ((xs : List (ℕ × N)) → m.0.heard ≡ xs ∷ [] → IsPrefix m.0.seen (longer m.0.seen xs) × IsPrefix xs (longer m.0.seen xs))
 
 module _ {S N : Type 0} (journal : S → List (ℕ × N)) (turns width : S → ℕ) where
   -- the table has the two words, the slot and the views of a lock that keeps the rule
