@@ -6,7 +6,7 @@ use Rattle.turn_lock.specs.declared.view.Stage.TheVariants.{Resting, Waiting, Ca
 use Rattle.turn_lock.specs.declared.view.View.{View}
 use Rattle.turn_lock.specs.Journals.{entries_by, IsPrefix}
 use Rattle.turn_lock.specs.Views.{IsPass, HasTicket, IsAtRest, dealt, next_pass, numbers_of}
-use Rattle.turn_lock.specs.Locks.{Lock, At, Everyone, Someone, StandsFor, Deals, Numbered, Knows, Saw, Rule}
+use Rattle.turn_lock.specs.Locks.{Lock, At, Everyone, Someone, StandsFor, HasWidth, Deals, Numbered, Knows, Saw, Rule}
 use Rattle.turn_lock.specs.Steps.{Deal, with_view, with_new}
 use Rattle.turn_lock.proofs.Seats.{there, everyone_set, everyone_new, someone_set, someone_new, apart_less, apart_new}
 use Rattle.turn_lock.proofs.Numbers.{resting_pass, contains_one}
@@ -28,6 +28,7 @@ module _ {N : Type 0} where
         within = omega arith;
         greatest = (me, w, at_longer us (new ∷ []) me w (set_here views me w (there views me v at)), (pass, ap (λ (n : ℕ). n + 1) is_most));
         one_width = everyone_new (λ u. IsPass u.stage → u.width ≡ size) us new (λ _. r.one_width me v at pass) (everyone_set (λ u. IsPass u.stage → u.width ≡ size) views me w (λ _. r.one_width me v at pass) (λ k u other found. r.one_width k u found));
+        joined_width = everyone_new (λ u. (n : ℕ) → HasWidth u n → n ≡ size) us new (λ n s. sym (contains_one v.width n s.1) ∙ r.one_width me v at pass) (everyone_set (λ u. (n : ℕ) → HasWidth u n → n ≡ size) views me w (λ n s. r.joined_width me v at n (pass, s.1)) (λ k u other found. r.joined_width k u found));
         made = everyone_new (λ u. Deals u tt → u.made ≡ most + 1) us new (λ d. let h = d.1 in absurd (omega arith))
             (everyone_set (λ u. Deals u tt → u.made ≡ most + 1) views me w (λ _. ap (λ (n : ℕ). n + 1) is_most) (λ k u other found d. absurd (other (r.dealer k me u v tt found at d (pass, deals)))));
         dealer = apart_new Deals us new (λ k u x found mine theirs. let h = mine.1 in omega arith) (apart_less Deals views me v w at (λ x d. (pass, deals)) r.dealer);

@@ -9,8 +9,8 @@ use Rattle.turn_lock.specs.declared.view.Stage.TheVariants.{Resting, Waiting, Ca
 use Rattle.turn_lock.specs.declared.view.Part.{Part}
 use Rattle.turn_lock.specs.declared.view.View.{View}
 use Rattle.turn_lock.specs.Journals.{entries_by, IsPrefix}
-use Rattle.turn_lock.specs.Views.{IsPass, HasTicket, IsAtRest, spent, gathered, parts_of, parts_or, numbers_of, numbers_or, own_part}
-use Rattle.turn_lock.specs.Locks.{Lock, At, Everyone, Someone, StandsFor, Deals, Numbered, Knows, Saw, Rule}
+use Rattle.turn_lock.specs.Views.{IsPass, HasTicket, IsAtRest, spent, gathered, parts_of, parts_or, numbers_of, numbers_or, widths_or, own_part}
+use Rattle.turn_lock.specs.Locks.{Lock, At, Everyone, Someone, StandsFor, HasWidth, Deals, Numbered, Knows, Saw, Rule}
 use Rattle.turn_lock.specs.Steps.{Gather, with_view}
 use Rattle.turn_lock.proofs.Seats.{everyone_joined, someone_joined, apart_joined}
 use Rattle.turn_lock.proofs.Numbers.{resting_pass, stands_for_own}
@@ -42,9 +42,13 @@ contains_cases x xs n c = at_place c.0 c.1 c.2
 
 module _ {N : Type 0} where
   -- the numbers of the parts
-  numbers_of_parts : (joined : List (Part N)) (own : Part N) → map (λ (q : Part N). q.number) (parts_or joined own) ≡ numbers_or joined own.number
+  pub numbers_of_parts : (joined : List (Part N)) (own : Part N) → map (λ (q : Part N). q.number) (parts_or joined own) ≡ numbers_or joined own.number
   numbers_of_parts [] own = refl
   numbers_of_parts (p ∷ ps) own = refl
+
+  widths_of_parts : (joined : List (Part N)) (own : Part N) → map (λ (q : Part N). q.width) (parts_or joined own) ≡ widths_or joined own.width
+  widths_of_parts [] own = refl
+  widths_of_parts (p ∷ ps) own = refl
 
   -- the pass stands for the numbers of both
   stands_for_both : (v w : View N) (n : ℕ) → IsPass v.stage → IsPass w.stage → w.joined ≡ [] → StandsFor (gathered v w) n → StandsFor v n ⊎ StandsFor w n
@@ -66,6 +70,10 @@ module _ {N : Type 0} where
         within = r.within;
         greatest = someone_joined (λ u. IsPass u.stage × (u.made ≡ most)) views me other v w both spent at at_other apart (λ h. (pass, larger_is v.made w.made most of_w h.1)) (λ h. (pass, larger_is_too v.made w.made most of_v h.1)) r.greatest;
         one_width = everyone_joined (λ u. IsPass u.stage → u.width ≡ size) views me other both spent (λ _. r.one_width me v at pass) (λ none. absurd none) r.one_width;
+        joined_width = everyone_joined (λ u. (n : ℕ) → HasWidth u n → n ≡ size) views me other both spent (λ n s. ⊎_elim
+            (λ (is : w.width ≡ n). sym is ∙ r.one_width other w at_other pass_too)
+            (λ (c : Contains (map (λ (q : Part N). q.width) (parts_of v)) n). r.joined_width me v at n (pass, subst (λ (ns : List ℕ). Contains ns n) (widths_of_parts v.joined (own_part v)) c))
+            (contains_cases w.width (map (λ (q : Part N). q.width) (parts_of v)) n s.1)) (λ n s. absurd s.0) r.joined_width;
         made = everyone_joined (λ u. Deals u tt → u.made ≡ most) views me other both spent (λ d. larger_dealt v.made w.made most of_v of_w d.1) (λ d. absurd d.0) r.made;
         dealer = apart_joined Deals views me other v w both spent at at_other deals (λ x d. d.0) r.dealer;
         below = everyone_joined (λ u. (n : ℕ) → StandsFor u n → n < most) views me other both spent (λ n s. ⊎_elim (r.below me v at n) (r.below other w at_other n) (stands n s)) (λ n s. absurd s.0) r.below;

@@ -7,7 +7,7 @@ use Rattle.std.proofs.lemmas.Bool.Decides.{nat_tests}
 use Rattle.turn_lock.specs.declared.view.Part.{Part}
 use Rattle.turn_lock.specs.declared.view.View.{View}
 use Rattle.turn_lock.specs.Journals.{entries_by, IsPrefix, longer, IsAtMostOne}
-use Rattle.turn_lock.specs.Views.{IsPass, parts_of, parts_or, numbers_of, numbers_or, own_part, longest}
+use Rattle.turn_lock.specs.Views.{IsPass, parts_of, parts_or, numbers_of, numbers_or, widths_or, own_part, longest}
 use Rattle.turn_lock.specs.Locks.{Knows}
 
 module _ {N : Type 0} where
@@ -112,6 +112,17 @@ module _ {N : Type 0} where
       among : (ps : List (Part N)) (j : ℕ) → get_elem? ps j ≡ some p → Contains (map (λ r. r.number) ps) p.number
       among [] j is = absurd (some-ne-none p (sym is))
       among (r ∷ rs) zero is = (0, omega arith, ap (λ (s : Part N). s.number) (some-injective r p is))
+      among (r ∷ rs) (suc j) is = let more = among rs j is in (suc more.0, (let h = more.1 in omega arith), more.2)
+
+  -- and each has one of the widths
+  pub width_of_part : (joined : List (Part N)) (own p : Part N) (i : ℕ) → get_elem? (parts_or joined own) i ≡ some p → Contains (widths_or joined own.width) p.width
+  width_of_part [] own p zero at = (0, omega arith, ap (λ (q : Part N). q.width) (some-injective own p at))
+  width_of_part [] own p (suc i) at = absurd (some-ne-none p (sym at))
+  width_of_part (q ∷ qs) own p i at = among (q ∷ qs) i at
+    where
+      among : (ps : List (Part N)) (j : ℕ) → get_elem? ps j ≡ some p → Contains (map (λ r. r.width) ps) p.width
+      among [] j is = absurd (some-ne-none p (sym is))
+      among (r ∷ rs) zero is = (0, omega arith, ap (λ (s : Part N). s.width) (some-injective r p is))
       among (r ∷ rs) (suc j) is = let more = among rs j is in (suc more.0, (let h = more.1 in omega arith), more.2)
 
   -- a pass that has taken in no other has one part

@@ -7,7 +7,7 @@ use Rattle.turn_lock.specs.declared.view.Stage.TheVariants.{Resting, Waiting, Ca
 use Rattle.turn_lock.specs.declared.view.View.{View}
 use Rattle.turn_lock.specs.Journals.{entries_by, IsPrefix}
 use Rattle.turn_lock.specs.Views.{IsPass, HasTicket, IsAtRest, note_of, spent, hearing, settled, longest}
-use Rattle.turn_lock.specs.Locks.{Lock, At, Everyone, Someone, StandsFor, Deals, Numbered, Knows, Saw, Rule}
+use Rattle.turn_lock.specs.Locks.{Lock, At, Everyone, Someone, StandsFor, HasWidth, Deals, Numbered, Knows, Saw, Rule}
 use Rattle.turn_lock.specs.Steps.{Copy, Hear, Settle, with_view, with_new}
 use Rattle.turn_lock.proofs.Seats.{there, everyone_set, everyone_new, someone_set, someone_new, someone_joined, everyone_joined, apart_less}
 use Rattle.turn_lock.proofs.Numbers.{resting_pass, numbered_same, numbered_new}
@@ -36,6 +36,7 @@ module _ {N : Type 0} where
     within = r.within;
     greatest = someone_set (λ u. IsPass u.stage × (u.made ≡ most)) views other w spent at (λ h. absurd (no_pass h.0)) r.greatest;
     one_width = everyone_set (λ u. IsPass u.stage → u.width ≡ size) views other spent (λ pass. absurd pass) (λ k u not_other found. r.one_width k u found);
+    joined_width = everyone_set (λ u. (n : ℕ) → HasWidth u n → n ≡ size) views other spent (λ n s. absurd s.0) (λ k u not_other found. r.joined_width k u found);
     made = everyone_set (λ u. Deals u tt → u.made ≡ most) views other spent (λ d. absurd d.0) (λ k u not_other found. r.made k u found);
     dealer = apart_less Deals views other w spent at (λ x d. absurd d.0) r.dealer;
     below = everyone_set (λ u. (n : ℕ) → StandsFor u n → n < most) views other spent (λ n s. absurd s.0) (λ k u not_other found. r.below k u found);

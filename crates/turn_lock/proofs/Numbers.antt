@@ -9,8 +9,8 @@ use Rattle.turn_lock.specs.declared.view.Stage.{Stage}
 use Rattle.turn_lock.specs.declared.view.Stage.TheVariants.{Resting, Waiting, Called, Note, Spent}
 use Rattle.turn_lock.specs.declared.view.Part.{Part}
 use Rattle.turn_lock.specs.declared.view.View.{View}
-use Rattle.turn_lock.specs.Views.{IsPass, HasTicket, parts_of, parts_or, numbers_of, numbers_or, own_part}
-use Rattle.turn_lock.specs.Locks.{At, Apart, Someone, Everyone, StandsFor, Deals, Numbered, InLine}
+use Rattle.turn_lock.specs.Views.{IsPass, HasTicket, parts_of, parts_or, numbers_of, numbers_or, widths_or, own_part}
+use Rattle.turn_lock.specs.Locks.{At, Apart, Someone, Everyone, StandsFor, HasWidth, Deals, Numbered, InLine}
 use Rattle.turn_lock.proofs.Pigeonhole.{at_most}
 use Rattle.turn_lock.proofs.Seats.{everyone_set, everyone_new, someone_set, someone_new, apart_less, apart_new, one_at}
 
@@ -48,12 +48,14 @@ module _ {N : Type 0} where
       → Numbered passes size most log views → Numbered passes size most log' (set views me w)
   numbered_same passes size most log log' views me v w at same unused r =
       let stands : (n : ℕ) → StandsFor w n → StandsFor v n = λ n s. (same.4, subst (λ (ps : List (Part N)). Contains (numbers_or ps v.number) n) same.3 (subst (λ (k : ℕ). Contains (numbers_or w.joined k) n) same.0 s.1)) in
+      let wide : (n : ℕ) → HasWidth w n → HasWidth v n = λ n s. (same.4, subst (λ (ps : List (Part N)). Contains (widths_or ps v.width) n) same.3 (subst (λ (k : ℕ). Contains (widths_or w.joined k) n) same.1 s.1)) in
       let deals : (x : Unit {0}) → Deals w x → Deals v x = λ x d. (same.4, subst (λ (k : ℕ). 0 < k) same.2 d.1) in
       record {
         few = r.few;
         within = r.within;
         greatest = someone_set (λ u. IsPass u.stage × (u.made ≡ most)) views me v w at (λ h. (same.5, same.2 ∙ h.1)) r.greatest;
         one_width = everyone_set (λ u. IsPass u.stage → u.width ≡ size) views me w (λ _. same.1 ∙ r.one_width me v at same.4) (λ k u other found. r.one_width k u found);
+        joined_width = everyone_set (λ u. (n : ℕ) → HasWidth u n → n ≡ size) views me w (λ n s. r.joined_width me v at n (wide n s)) (λ k u other found. r.joined_width k u found);
         made = everyone_set (λ u. Deals u tt → u.made ≡ most) views me w (λ d. same.2 ∙ r.made me v at (deals tt d)) (λ k u other found. r.made k u found);
         dealer = apart_less Deals views me v w at deals r.dealer;
         below = everyone_set (λ u. (n : ℕ) → StandsFor u n → n < most) views me w (λ n s. r.below me v at n (stands n s)) (λ k u other found. r.below k u found);
@@ -68,6 +70,7 @@ module _ {N : Type 0} where
     within = r.within;
     greatest = someone_new (λ u. IsPass u.stage × (u.made ≡ most)) views w r.greatest;
     one_width = everyone_new (λ u. IsPass u.stage → u.width ≡ size) views w (λ pass. absurd (no_pass pass)) r.one_width;
+    joined_width = everyone_new (λ u. (n : ℕ) → HasWidth u n → n ≡ size) views w (λ n s. absurd (no_pass s.0)) r.joined_width;
     made = everyone_new (λ u. Deals u tt → u.made ≡ most) views w (λ d. absurd (no_pass d.0)) r.made;
     dealer = apart_new Deals views w (λ k u x found mine theirs. no_pass mine.0) r.dealer;
     below = everyone_new (λ u. (n : ℕ) → StandsFor u n → n < most) views w (λ n s. absurd (no_pass s.0)) r.below;

@@ -8,8 +8,8 @@ use Rattle.turn_lock.specs.declared.view.Stage.{Stage}
 use Rattle.turn_lock.specs.declared.view.Stage.TheVariants.{Resting, Waiting, Called, Note, Spent}
 use Rattle.turn_lock.specs.declared.view.View.{View}
 use Rattle.turn_lock.specs.Journals.{entries_by, IsPrefix, longer}
-use Rattle.turn_lock.specs.Views.{IsPass, HasTicket, IsAtRest, newcomer, dealt, next_pass, note_of, hearing, settled, gathered, spent, own_part, numbers_of}
-use Rattle.turn_lock.specs.Locks.{Lock, At, Everyone, StandsFor, Deals, Knows, Saw, Rule}
+use Rattle.turn_lock.specs.Views.{IsPass, HasTicket, IsAtRest, newcomer, dealt, next_pass, note_of, hearing, settled, gathered, spent, own_part, parts_of, numbers_of}
+use Rattle.turn_lock.specs.Locks.{Lock, At, Everyone, StandsFor, HasWidth, Deals, Knows, Saw, Rule}
 use Rattle.turn_lock.specs.Steps.{with_view, with_new}
 use Rattle.turn_lock.specs.Tables.{Hold, Standing, learned}
 use Rattle.turn_lock.proofs.Allowed.{at_lock}
@@ -135,6 +135,7 @@ module _ {S N : Type 0} (journal : S → List (ℕ × N)) (turns width : S → �
           within = some_pass;
           greatest = (0, v, refl, (tt, refl));
           one_width = only (λ j u. IsPass u.stage → u.width ≡ width y) v (λ _. refl);
+          joined_width = only (λ j u. (n : ℕ) → HasWidth u n → n ≡ width y) v (λ n s. sym (contains_one (width y) n s.1));
           made = only (λ j u. Deals u tt → u.made ≡ 1) v (λ _. refl);
           dealer = λ j k a b x at_j at_k has has_too. only_seat v j a at_j ∙ sym (only_seat v k b at_k);
           below = only (λ j u. (n : ℕ) → StandsFor u n → n < 1) v (λ n s. let e = contains_one 0 n s.1 in omega arith);

@@ -3,7 +3,7 @@ use Rattle.std.specs.Prelude.{◌≡◌, ℕ, ◌+◌, ◌%◌, ◌^◌, ◌<◌
 use mathlib.Core.Option.{Option as Maybe, none, some}
 use lib.ListN.{get_elem?}
 use Rattle.turn_lock.specs.Journals.{entries_by, IsPrefix}
-use Rattle.turn_lock.specs.Views.{IsPass, HasTicket, parts_of, numbers_of}
+use Rattle.turn_lock.specs.Views.{IsPass, HasTicket, parts_of, numbers_of, widths_of}
 use Rattle.turn_lock.specs.declared.view.Stage.TheVariants.{Called}
 use Rattle.turn_lock.specs.declared.view.Part.{Part}
 use Rattle.turn_lock.specs.declared.view.View.{View}
@@ -35,6 +35,10 @@ module _ {N : Type 0} where
   abbrev pub StandsFor : View N → ℕ → Type 0
   StandsFor v n = IsPass v.stage × Contains (numbers_of v) n
 
+  -- the pass, or one that joined it, has this width
+  abbrev pub HasWidth : View N → ℕ → Type 0
+  HasWidth v width = IsPass v.stage × Contains (widths_of v) width
+
   -- the pass gives numbers out
   abbrev pub Deals : View N → Unit {0} → Type 0
   Deals v _ = IsPass v.stage × (0 < v.made)
@@ -45,6 +49,7 @@ module _ {N : Type 0} where
     pub within : most ≤ passes
     pub greatest : Someone (λ v. IsPass v.stage × (v.made ≡ most)) views
     pub one_width : Everyone (λ v. IsPass v.stage → v.width ≡ width) views
+    pub joined_width : Everyone (λ v. (size : ℕ) → HasWidth v size → size ≡ width) views
     pub made : Everyone (λ v. Deals v tt → v.made ≡ most) views
     pub dealer : Apart Deals views
     pub below : Everyone (λ v. (n : ℕ) → StandsFor v n → n < most) views

@@ -25,7 +25,7 @@ HasTicket Spent t = ⊥
 module _ {N : Type 0} where
   -- the view's own number, with what it has seen and its entries
   abbrev pub own_part : View N → Part N
-  own_part v = record { number = v.number; seen = v.seen; mine = v.mine }
+  own_part v = record { number = v.number; width = v.width; seen = v.seen; mine = v.mine }
 
   abbrev pub parts_or : List (Part N) → Part N → List (Part N)
   parts_or [] own = own ∷ []
@@ -42,6 +42,14 @@ module _ {N : Type 0} where
   -- the numbers of these parts
   abbrev pub numbers_of : View N → List ℕ
   numbers_of v = numbers_or v.joined v.number
+
+  abbrev pub widths_or : List (Part N) → ℕ → List ℕ
+  widths_or [] own = own ∷ []
+  widths_or (p ∷ ps) own = map (λ q. q.width) (p ∷ ps)
+
+  -- the widths of these parts
+  abbrev pub widths_of : View N → List ℕ
+  widths_of v = widths_or v.joined v.width
 
   -- a pass that has no ticket, has taken in no other pass, and keeps no note
   pub record IsAtRest (v : View N) : Type 0 where

@@ -1,8 +1,9 @@
 ghost use Rattle.std.specs.Prelude.{◌≡◌, ℕ, ◌<◌, ◌≤◌, [], ◌∷◌, map, vec_len, All, Contains, IfOk};
 ghost use Rattle.std.specs.List.{range_with_len};
 ghost use Rattle.turn_lock.specs.Journals.{entries_by, IsPrefix, longer};
-ghost use Rattle.turn_lock.specs.Views.{newcomer};
-ghost use Rattle.turn_lock.specs.Passes.{fresh, IsNumberOf};
+ghost use Rattle.turn_lock.specs.Views.{newcomer, parts_of};
+ghost use Rattle.turn_lock.specs.declared.view.Stage.TheVariants.{Resting};
+ghost use Rattle.turn_lock.specs.Passes.{fresh, part_of, IsNumberOf};
 
 use crate::kept::Kept;
 use crate::pass::Pass;
@@ -95,5 +96,44 @@ impl<V: Kept> TurnLock<V> {
         let note = self.table.shared.split_seat::<Copy>(&mut other.seat);
         self.table.shared.join_seat::<Hear>(&mut pass.seat, note);
         self.table.shared.load::<Settle>(&mut pass.seat, 0);
+    }
+
+    /// Gives the value out, where each pass is in the list. It takes no memory.
+    pub fn close<R: Sync>(self, _rt: &R, passes: Vec<Pass<V>>) -> V
+        requires own { All (λ p. p.lock ≡ self.lock) passes.items }
+        requires each { (number : ℕ) → number < self.passes → IsNumberOf passes.items number }
+        ensures width { All (λ p. V.width result ≡ p.width) passes.items }
+        ensures seen { All (λ p. IsPrefix p.seen (V.journal result)) passes.items }
+        ensures mine { All (λ p. entries_by p.number (V.journal result) ≡ p.mine) passes.items }
+        ensures others { All (λ e. IsNumberOf passes.items e.0) (V.journal result) }
+    {
+        let all = self.gather(passes);
+        let TurnLock { table } = self;
+        let mut closed = table.close_with(all);
+        let slot = closed.take(0);
+        closed.free();
+        let Some(value) = slot else { unreachable!() };
+        value
+    }
+
+    // Joins all passes into one, whose seat is given.
+    fn gather(&self, mut passes: Vec<Pass<V>>) -> Seat<Option<V>, View<V::Note>>
+        requires own { All (λ p. p.lock ≡ self.now.lock) passes.items }
+        requires some { 0 < vec_len passes }
+        ensures own { result.table_id ≡ self.now.lock }
+        ensures free { result.me.1 ≡ [] }
+        ensures rests { result.me.0.stage ≡ Resting }
+        ensures parts { parts_of result.me.0 ≡ map part_of passes.items }
+    {
+        let Some(last) = passes.pop() else {
+            unreachable!()
+        };
+        let mut all = last.into_seat();
+        while let Some(pass) = passes.pop() {
+            self.table
+                .shared
+                .join_seat::<Gather>(&mut all, pass.into_seat());
+        }
+        all
     }
 }

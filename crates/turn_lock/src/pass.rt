@@ -4,7 +4,6 @@ use atomic_table::Seat;
 use std::marker::Model;
 
 /// The right to take turns at one lock, under one number. It takes memory for its number alone.
-#[derive(Drop)]
 pub struct Pass<V: Kept> {
     pub(crate) seat: Seat<Option<V>, View<V::Note>>,
     pub(crate) number: u32,
@@ -23,11 +22,29 @@ impl<V: Kept> Model for Pass<V> {
 }
 
 impl<V: Kept> Pass<V> {
-    ghost use Rattle.std.specs.Prelude.{◌≡◌};
+    ghost use Rattle.std.specs.Prelude.{◌≡◌, []};
+    ghost use Rattle.turn_lock.specs.Passes.{part_of};
+    ghost use Rattle.turn_lock.specs.Views.{IsAtRest, own_part};
 
     pub fn number(&self) -> u32
         ensures { result ≡ self.now.number }
     {
         self.number
+    }
+
+    pub(crate) fn into_seat(self) -> Seat<Option<V>, View<V::Note>>
+        ensures own { result.table_id ≡ self.lock }
+        ensures free { result.me.1 ≡ [] }
+        ensures rests { IsAtRest result.me.0 }
+        ensures part { own_part result.me.0 ≡ part_of self }
+    {
+        let Pass { seat, number: _ } = self;
+        seat
+    }
+}
+
+impl<V: Kept> Drop for Pass<V> {
+    fn drop(self) {
+        let Pass { seat: _, number: _ } = self;
     }
 }

@@ -12,6 +12,7 @@ pub enum Stage {
 /// A number that was given out, with what its pass has seen and its entries. No value of it is made.
 pub struct Part<N> {
     pub number: u32,
+    pub width: u64,
     pub seen: LinkedList<(u32, N)>,
     pub mine: LinkedList<(u32, N)>,
 }
