@@ -106,20 +106,22 @@ module _ {S N : Type 0} (journal : S → List (ℕ × N)) (turns width : S → �
       )
 
   -- the slot has a value at the end
-  pub closed : (passes id : ℕ) (ps : List (Token N)) (v : View N) (ws : List ℕ) (xs : List (Option S)) (slot : Option S) → Final (SeenBy (Standing journal turns width passes) id v) ws xs → v.stage ≡ Resting → parts_of v ≡ map part_of ps
+  found_at_end : (passes id : ℕ) (ps : List (Token N)) (v : View N) (ws : List ℕ) (xs : List (Option S)) (slot : Option S) → Final (SeenBy (Standing journal turns width passes) id v) ws xs → v.stage ≡ Resting → parts_of v ≡ map part_of ps
       → ((n : ℕ) → n < passes → IsNumberOf ps n) → get_elem? xs 0 ≡ some slot → (y : S) × (slot ≡ Some y) × Ends ps y
-  closed passes id ps v ws xs slot last rests is every found =
+  found_at_end passes id ps v ws xs slot last rests is every found =
       let e = ends passes id ps v last.0 last.1.0 last.1.1 rests is every in
       (e.0, some-injective slot (Some e.0) (sym found ∙ last.4 0 (Some e.0) e.1), e.2)
 
-  pub value_ends : (ps : List (Token N)) (slot : Option S) (value : S) → (y : S) × (slot ≡ Some y) × Ends ps y → slot ≡ Some value → Ends ps value
-  value_ends ps slot value e is = subst (Ends ps) (same_value e.0 value slot e.1 is) e.2
-    where
-      same_value : (x y : S) (o : Option S) → o ≡ Some x → o ≡ Some y → x ≡ y
-      same_value x y o a b = grind arith
-
-  pub no_value : (ps : List (Token N)) (slot : Option S) → (y : S) × (slot ≡ Some y) × Ends ps y → slot ≡ None → ⊥
-  no_value ps slot e is = differ e.0 slot e.1 is
+  pub no_other : (passes id : ℕ) (ps : List (Token N)) (v : View N) (ws : List ℕ) (xs : List (Option S)) (slot : Option S) → Final (SeenBy (Standing journal turns width passes) id v) ws xs → v.stage ≡ Resting → parts_of v ≡ map part_of ps
+      → ((n : ℕ) → n < passes → IsNumberOf ps n) → get_elem? xs 0 ≡ some slot → slot ≡ None → ⊥
+  no_other passes id ps v ws xs slot last rests is every found none = let e = found_at_end passes id ps v ws xs slot last rests is every found in differ e.0 slot e.1 none
     where
       differ : (x : S) (o : Option S) → o ≡ Some x → o ≡ None → ⊥
       differ x o a b = grind arith
+
+  pub closed : (passes id : ℕ) (ps : List (Token N)) (v : View N) (ws : List ℕ) (xs : List (Option S)) (slot : Option S) (value : S) → Final (SeenBy (Standing journal turns width passes) id v) ws xs → v.stage ≡ Resting → parts_of v ≡ map part_of ps
+      → ((n : ℕ) → n < passes → IsNumberOf ps n) → get_elem? xs 0 ≡ some slot → slot ≡ Some value → Ends ps value
+  closed passes id ps v ws xs slot value last rests is every found has = let e = found_at_end passes id ps v ws xs slot last rests is every found in subst (Ends ps) (same_value e.0 value slot e.1 has) e.2
+    where
+      same_value : (x y : S) (o : Option S) → o ≡ Some x → o ≡ Some y → x ≡ y
+      same_value x y o a b = grind arith

@@ -6,7 +6,6 @@ pub mod Logs
 pub mod Slots
 pub mod Turns
 pub mod Allowed
-pub mod Begun
 pub mod Deals
 pub mod Meets
 pub mod Gathers

@@ -1,7 +1,8 @@
-ghost use Rattle.std.specs.Prelude.{◌≡◌, ◌+◌, ◌%◌, ◌^◌, Some, None, [], ◌∷◌};
+ghost use Rattle.std.specs.Prelude.{◌≡◌, ℕ, Some, None, List, [], ◌∷◌, ◌++◌};
 ghost use Rattle.std.specs.Bool.{OnTrue, OnFalse};
 ghost use Rattle.turn_lock.specs.Passes.{Turned};
-ghost use Rattle.turn_lock.specs.Tables.{Took};
+ghost use Rattle.turn_lock.specs.Views.{IsAtRest, raised};
+ghost use Rattle.turn_lock.specs.Tables.{Took, Begun, Ending};
 ghost use Rattle.turn_lock.specs.declared.view.Stage.TheVariants.{Waiting};
 
 use crate::kept::{Change, Kept};
@@ -29,13 +30,32 @@ impl<V: Kept> TurnLock<V> {
         requires fits { C.fits change pass.old.width }
         ensures { Turned V.journal V.width C.does change pass.old pass.new result }
     {
-        let ticket = self.table.shared.fetch_add::<Draw>(&mut pass.seat, 0, 1);
-        self.wait(rt, &mut pass.seat, ticket);
-        let mut value = self.take_out(rt, &mut pass.seat, ticket);
+        let mut value = self.begin(rt, &mut pass.seat);
         let answer = change.apply(pass.number, &mut value);
-        self.put_back(&mut pass.seat, value);
-        self.table.shared.fetch_add::<Raise>(&mut pass.seat, 1, 1);
+        self.end(&mut pass.seat, value);
         answer
+    }
+
+    fn begin<R: Wait>(&self, rt: &R, seat: &mut Seat<Option<V>, View<V::Note>>) -> V
+        requires own { seat.old.table_id ≡ self.now.lock }
+        requires rests { IsAtRest seat.old.me.0 }
+        requires free { seat.old.me.1 ≡ [] }
+        ensures own { seat.new.table_id ≡ seat.old.table_id }
+        ensures begun { Begun V.journal V.turns V.width seat.old.me.0 result seat.new.me }
+    {
+        let ticket = self.table.shared.fetch_add::<Draw>(seat, 0, 1);
+        self.wait(rt, seat, ticket);
+        self.take_out(rt, seat, ticket)
+    }
+
+    fn end(&self, seat: &mut Seat<Option<V>, View<V::Note>>, value: V)
+        requires own { seat.old.table_id ≡ self.now.lock }
+        requires turn { Ending V.journal V.turns V.width seat.old.me value }
+        ensures own { seat.new.table_id ≡ seat.old.table_id }
+        ensures ended { (added : List (ℕ × V.Note)) → V.journal value ≡ seat.old.me.0.seen ++ added → seat.new.me ≡ (raised seat.old.me.0 (V.journal value) added, []) }
+    {
+        self.put_back(seat, value);
+        self.table.shared.fetch_add::<Raise>(seat, 1, 1);
     }
 
     // Waits until the ticket is served. The slot is then the seat's.

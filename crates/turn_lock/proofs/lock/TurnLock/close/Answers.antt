@@ -1,6 +1,6 @@
-use Rattle.std.proofs.Common.{◌≡◌, ◌<◌, ◌≤◌, rules, ap, sym, subst, ◌∙◌, map, length, vec_len, arith}
+use Rattle.std.proofs.Common.{◌≡◌, ◌<◌, ◌≤◌, rules, ap, subst, length, vec_len, arith}
 use Rattle.std.proofs.lemmas.List.{length-map}
-use Rattle.turn_lock.proofs.Ended.{closed, value_ends, no_value}
+use Rattle.turn_lock.proofs.Ended.{closed, no_other}
 use Rattle.turn_lock.proofs.lock.TurnLock.close.Goals as goal
 
 pub gather-all-requires-clause-some : goal.gather-all-requires-clause-some
@@ -15,34 +15,12 @@ gather-all-requires-clause-some g c =
 pub unreachable-requires : goal.unreachable-requires
 unreachable-requires g c =
     let passes : c.self.inside.table.shared.key.passes ≡ c.args.self.passes = ap (λ l. l.passes) c.self.view_is in
-    no_value g.V.Kept.journal g.V.Kept.turns g.V.Kept.width c.args.passes.items c.take-slot.result
-        (closed g.V.Kept.journal g.V.Kept.turns g.V.Kept.width c.self.inside.table.shared.key.passes _ c.args.passes.items c.gather-all.result.me.0 _ _ c.take-slot.result c.close_with-closed.ensures.values.2 c.gather-all.ensures.rests c.gather-all.ensures.parts (λ n small. c.requires.each n (subst (λ k. n < k) passes small)) c.take-slot.ensures.value)
-        c.in_default.is
+    no_other g.V.Kept.journal g.V.Kept.turns g.V.Kept.width c.self.inside.table.shared.key.passes _ c.args.passes.items c.gather-all.result.me.0 _ _ c.take-slot.result
+        c.close_with-closed.ensures.values.2 c.gather-all.ensures.rests c.gather-all.ensures.parts (λ n small. c.requires.each n (subst (λ k. n < k) passes small)) c.take-slot.ensures.value c.in_default.is
 
-pub returns-clause-width : goal.returns-clause-width
-returns-clause-width g c =
+pub returns : goal.returns
+returns g c =
     let passes : c.self.inside.table.shared.key.passes ≡ c.args.self.passes = ap (λ l. l.passes) c.self.view_is in
-    (value_ends g.V.Kept.journal g.V.Kept.turns g.V.Kept.width c.args.passes.items c.take-slot.result c.in-Some.value
-        (closed g.V.Kept.journal g.V.Kept.turns g.V.Kept.width c.self.inside.table.shared.key.passes _ c.args.passes.items c.gather-all.result.me.0 _ _ c.take-slot.result c.close_with-closed.ensures.values.2 c.gather-all.ensures.rests c.gather-all.ensures.parts (λ n small. c.requires.each n (subst (λ k. n < k) passes small)) c.take-slot.ensures.value)
-        c.in-Some.is).wide
-
-pub returns-clause-seen : goal.returns-clause-seen
-returns-clause-seen g c =
-    let passes : c.self.inside.table.shared.key.passes ≡ c.args.self.passes = ap (λ l. l.passes) c.self.view_is in
-    (value_ends g.V.Kept.journal g.V.Kept.turns g.V.Kept.width c.args.passes.items c.take-slot.result c.in-Some.value
-        (closed g.V.Kept.journal g.V.Kept.turns g.V.Kept.width c.self.inside.table.shared.key.passes _ c.args.passes.items c.gather-all.result.me.0 _ _ c.take-slot.result c.close_with-closed.ensures.values.2 c.gather-all.ensures.rests c.gather-all.ensures.parts (λ n small. c.requires.each n (subst (λ k. n < k) passes small)) c.take-slot.ensures.value)
-        c.in-Some.is).seen
-
-pub returns-clause-mine : goal.returns-clause-mine
-returns-clause-mine g c =
-    let passes : c.self.inside.table.shared.key.passes ≡ c.args.self.passes = ap (λ l. l.passes) c.self.view_is in
-    (value_ends g.V.Kept.journal g.V.Kept.turns g.V.Kept.width c.args.passes.items c.take-slot.result c.in-Some.value
-        (closed g.V.Kept.journal g.V.Kept.turns g.V.Kept.width c.self.inside.table.shared.key.passes _ c.args.passes.items c.gather-all.result.me.0 _ _ c.take-slot.result c.close_with-closed.ensures.values.2 c.gather-all.ensures.rests c.gather-all.ensures.parts (λ n small. c.requires.each n (subst (λ k. n < k) passes small)) c.take-slot.ensures.value)
-        c.in-Some.is).mine
-
-pub returns-clause-others : goal.returns-clause-others
-returns-clause-others g c =
-    let passes : c.self.inside.table.shared.key.passes ≡ c.args.self.passes = ap (λ l. l.passes) c.self.view_is in
-    (value_ends g.V.Kept.journal g.V.Kept.turns g.V.Kept.width c.args.passes.items c.take-slot.result c.in-Some.value
-        (closed g.V.Kept.journal g.V.Kept.turns g.V.Kept.width c.self.inside.table.shared.key.passes _ c.args.passes.items c.gather-all.result.me.0 _ _ c.take-slot.result c.close_with-closed.ensures.values.2 c.gather-all.ensures.rests c.gather-all.ensures.parts (λ n small. c.requires.each n (subst (λ k. n < k) passes small)) c.take-slot.ensures.value)
-        c.in-Some.is).others
+    let ends = closed g.V.Kept.journal g.V.Kept.turns g.V.Kept.width c.self.inside.table.shared.key.passes _ c.args.passes.items c.gather-all.result.me.0 _ _ c.take-slot.result c.in-Some.value
+        c.close_with-closed.ensures.values.2 c.gather-all.ensures.rests c.gather-all.ensures.parts (λ n small. c.requires.each n (subst (λ k. n < k) passes small)) c.take-slot.ensures.value c.in-Some.is in
+    record { width = ends.wide; seen = ends.seen; mine = ends.mine; others = ends.others }
