@@ -1,18 +1,18 @@
 -- Each step on a word of the table is a step of the lock, so the rule allows it.
-use Rattle.std.proofs.Common.{◌≡◌, ◌≢◌, ℕ, ◌+◌, ◌%◌, ◌^◌, ◌<◌, ◌⊎◌, Option, Some, List, [], ◌∷◌, ◌++◌, get_or, set, sym, refl, ap, ◌∙◌, subst, ⊎_elim, arith}
+use Rattle.std.proofs.Common.{◌≡◌, ℕ, ◌+◌, ◌%◌, ◌^◌, Option, Some, List, [], ◌∷◌, ◌++◌, get_or, set, sym, refl, ap, ◌∙◌, subst, arith}
 use mathlib.Core.Logic.{dite}
 use mathlib.Core.Option.{Option as Maybe, some, none}
 use native.Mathlib.Decide.{ℕ_discrete}
 use lib.ListN.{get_elem?}
 use Rattle.std.proofs.lemmas.List.{append_cancel_left}
-use Rattle.atomic_table.specs.Table.{State, Me, Step, step, keeps, takes, gives, Allows, Splits, Joins, rest, put_back}
+use Rattle.atomic_table.specs.Table.{State, step, keeps, takes, gives, Allows, rest, put_back}
 use Rattle.atomic_table.proofs.Lists.{set_again}
 use Rattle.turn_lock.specs.declared.view.Stage.{Stage}
-use Rattle.turn_lock.specs.declared.view.Stage.TheVariants.{Resting, Waiting, Called, Note, Spent}
+use Rattle.turn_lock.specs.declared.view.Stage.TheVariants.{Waiting, Called}
 use Rattle.turn_lock.specs.declared.view.View.{View}
-use Rattle.turn_lock.specs.Journals.{entries_by, IsPrefix, IsAtMostOne}
+use Rattle.turn_lock.specs.Journals.{IsAtMostOne}
 use Rattle.turn_lock.specs.Views.{IsAtRest, waiting, called, raised}
-use Rattle.turn_lock.specs.Locks.{Lock, At, Rule, Knows}
+use Rattle.turn_lock.specs.Locks.{At, Knows}
 use Rattle.turn_lock.specs.Steps.{drawn, taken, raises}
 use Rattle.turn_lock.specs.Tables.{Hold, Standing, Took, drew, looked, passed}
 use Rattle.turn_lock.proofs.Numbers.{ticket_pass}

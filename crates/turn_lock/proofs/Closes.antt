@@ -1,14 +1,11 @@
 -- What is known where the table ends.
-use Rattle.std.proofs.Common.{◌≡◌, ◌≢◌, ℕ, zero, suc, ◌+◌, ◌<◌, ◌≤◌, ◌⊎◌, ◌==◌, Bool, true, false, cond, Some, List, [], ◌∷◌, length, filter, slice_index_or, Contains, All, sym, refl, ap, ◌∙◌, subst, inl, inr, ⊎_elim, arith, lt_of_not-le}
+use Rattle.std.proofs.Common.{◌≡◌, ◌≢◌, ℕ, zero, suc, ◌<◌, ◌==◌, Bool, true, false, cond, List, [], ◌∷◌, slice_index_or, All, sym, refl, ap, ◌∙◌, ⊎_elim, arith, lt_of_not-le}
 use mathlib.Core.Logic.{dite}
 use native.Mathlib.Decide.{dec_le}
 use Rattle.std.proofs.lemmas.Bool.Decides.{nat_tests}
-use Rattle.turn_lock.specs.declared.view.Stage.{Stage}
-use Rattle.turn_lock.specs.declared.view.Stage.TheVariants.{Resting, Waiting, Called, Note, Spent}
 use Rattle.turn_lock.specs.declared.view.View.{View}
-use Rattle.turn_lock.specs.Journals.{entries_by, IsPrefix}
-use Rattle.turn_lock.specs.Views.{numbers_of, HasTicket}
-use Rattle.turn_lock.specs.Locks.{Lock, At, StandsFor, AtHome, Away, Rule}
+use Rattle.turn_lock.specs.Journals.{entries_by}
+use Rattle.turn_lock.specs.Locks.{Lock, StandsFor, AtHome, Away, Rule}
 use Rattle.turn_lock.specs.Steps.{Close}
 use Rattle.turn_lock.proofs.Seats.{one_at}
 use Rattle.turn_lock.proofs.Numbers.{resting_pass, ticket_pass, stands_for_own}

@@ -1,12 +1,10 @@
 -- The step that gives out a number keeps the rule.
-use Rattle.std.proofs.Common.{◌≡◌, ◌≢◌, ℕ, suc, ◌+◌, ◌<◌, ◌≤◌, ◌⊎◌, Option, List, [], ◌∷◌, ◌++◌, length, set, Contains, All, sym, refl, ap, ◌∙◌, subst, inl, inr, arith}
+use Rattle.std.proofs.Common.{◌≡◌, ℕ, ◌+◌, ◌<◌, List, [], ◌∷◌, ◌++◌, set, sym, refl, ap, ◌∙◌, subst, arith}
 use Rattle.atomic_table.proofs.Lists.{at_longer, set_here}
-use Rattle.turn_lock.specs.declared.view.Stage.{Stage}
-use Rattle.turn_lock.specs.declared.view.Stage.TheVariants.{Resting, Waiting, Called, Note, Spent}
+use Rattle.turn_lock.specs.declared.view.Stage.TheVariants.{Resting, Called}
 use Rattle.turn_lock.specs.declared.view.View.{View}
-use Rattle.turn_lock.specs.Journals.{entries_by, IsPrefix}
-use Rattle.turn_lock.specs.Views.{IsPass, HasTicket, IsAtRest, dealt, next_pass, numbers_of}
-use Rattle.turn_lock.specs.Locks.{Lock, At, Everyone, Someone, StandsFor, HasWidth, Deals, Numbered, Knows, Saw, Rule}
+use Rattle.turn_lock.specs.Views.{IsPass, HasTicket, dealt, next_pass}
+use Rattle.turn_lock.specs.Locks.{Lock, At, Everyone, StandsFor, HasWidth, Deals, Numbered, Knows, Saw, Rule}
 use Rattle.turn_lock.specs.Steps.{Deal, with_view, with_new}
 use Rattle.turn_lock.proofs.Seats.{there, everyone_set, everyone_new, someone_set, someone_new, apart_less, apart_new}
 use Rattle.turn_lock.proofs.Numbers.{resting_pass, contains_one}

@@ -1,5 +1,5 @@
 -- All passes are taken into one, and then the table ends.
-use Rattle.std.proofs.Common.{◌≡◌, ℕ, zero, suc, ◌<◌, Option, Some, None, List, [], ◌∷◌, ◌++◌, map, length, get_or, slice_index_or, Contains, All, sym, refl, ap, ◌∙◌, subst, arith, append_assoc}
+use Rattle.std.proofs.Common.{◌≡◌, ℕ, ◌<◌, Option, Some, None, List, [], ◌∷◌, ◌++◌, map, get_or, Contains, All, sym, refl, ap, ◌∙◌, subst, arith, append_assoc}
 use mathlib.Core.Option.{Option as Maybe, some, some-injective}
 use lib.ListN.{get_elem?}
 use Rattle.std.proofs.lemmas.List.{map-append, get_or_default}
@@ -12,8 +12,8 @@ use Rattle.turn_lock.specs.declared.view.Stage.TheVariants.{Resting}
 use Rattle.turn_lock.specs.declared.view.Part.{Part}
 use Rattle.turn_lock.specs.declared.view.View.{View}
 use Rattle.turn_lock.specs.Journals.{entries_by, IsPrefix}
-use Rattle.turn_lock.specs.Views.{IsAtRest, gathered, own_part, parts_of, parts_or, numbers_of, numbers_or}
-use Rattle.turn_lock.specs.Locks.{AtHome, Knows}
+use Rattle.turn_lock.specs.Views.{IsAtRest, gathered, own_part, parts_of, parts_or, numbers_of}
+use Rattle.turn_lock.specs.Locks.{Knows}
 use Rattle.turn_lock.specs.Passes.{Token, part_of, IsNumberOf}
 use Rattle.turn_lock.specs.Tables.{Hold, Standing}
 use Rattle.turn_lock.proofs.Allowed.{at_lock}

@@ -1,16 +1,15 @@
 -- The step by which a pass takes in another keeps the rule.
-use Rattle.std.proofs.Common.{◌≡◌, ◌≢◌, ℕ, zero, suc, ◌+◌, ◌<◌, ◌≤◌, ◌⊎◌, max, Option, List, [], ◌∷◌, ◌++◌, map, length, set, slice_index_or, Contains, All, sym, refl, ap, ◌∙◌, subst, inl, inr, ⊎_elim, arith}
+use Rattle.std.proofs.Common.{◌≡◌, ◌≢◌, ℕ, zero, suc, ◌<◌, ◌⊎◌, max, List, [], ◌∷◌, map, length, set, slice_index_or, Contains, sym, refl, ap, ◌∙◌, subst, inl, inr, ⊎_elim, arith}
 use mathlib.Core.Option.{some, some-injective}
 use lib.ListN.{get_elem?}
 use Rattle.std.proofs.lemmas.List.{set_comm}
 use Rattle.atomic_table.proofs.Lists.{set_else}
-use Rattle.turn_lock.specs.declared.view.Stage.{Stage}
-use Rattle.turn_lock.specs.declared.view.Stage.TheVariants.{Resting, Waiting, Called, Note, Spent}
+use Rattle.turn_lock.specs.declared.view.Stage.TheVariants.{Called, Spent}
 use Rattle.turn_lock.specs.declared.view.Part.{Part}
 use Rattle.turn_lock.specs.declared.view.View.{View}
 use Rattle.turn_lock.specs.Journals.{entries_by, IsPrefix}
-use Rattle.turn_lock.specs.Views.{IsPass, HasTicket, IsAtRest, spent, gathered, parts_of, parts_or, numbers_of, numbers_or, widths_or, own_part}
-use Rattle.turn_lock.specs.Locks.{Lock, At, Everyone, Someone, StandsFor, HasWidth, Deals, Numbered, Knows, Saw, Rule}
+use Rattle.turn_lock.specs.Views.{IsPass, HasTicket, spent, gathered, parts_of, parts_or, numbers_or, widths_or, own_part}
+use Rattle.turn_lock.specs.Locks.{Lock, At, StandsFor, HasWidth, Deals, Numbered, Knows, Saw, Rule}
 use Rattle.turn_lock.specs.Steps.{Gather, with_view}
 use Rattle.turn_lock.proofs.Seats.{everyone_joined, someone_joined, apart_joined}
 use Rattle.turn_lock.proofs.Numbers.{resting_pass, stands_for_own}

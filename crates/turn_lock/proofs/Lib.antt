@@ -12,3 +12,4 @@ pub mod Gathers
 pub mod Closes
 pub mod Permitted
 pub mod Ended
+pub mod Fresh

@@ -1,15 +1,15 @@
 -- The steps by which one pass sees what another has seen keep the rule.
-use Rattle.std.proofs.Common.{◌≡◌, ◌≢◌, ℕ, zero, suc, ◌+◌, ◌<◌, ◌≤◌, ◌⊎◌, Option, List, [], ◌∷◌, ◌++◌, length, set, Contains, All, sym, refl, ap, ◌∙◌, subst, inl, inr, ⊎_elim, arith}
+use Rattle.std.proofs.Common.{◌≡◌, ℕ, zero, suc, ◌<◌, List, [], ◌∷◌, set, Contains, All, sym, refl, ap, ◌∙◌, subst, inl, inr, ⊎_elim, arith}
 use Rattle.std.proofs.lemmas.List.{set_comm}
-use Rattle.atomic_table.proofs.Lists.{set_here, set_else}
+use Rattle.atomic_table.proofs.Lists.{set_else}
 use Rattle.turn_lock.specs.declared.view.Stage.{Stage}
-use Rattle.turn_lock.specs.declared.view.Stage.TheVariants.{Resting, Waiting, Called, Note, Spent}
+use Rattle.turn_lock.specs.declared.view.Stage.TheVariants.{Called, Note, Spent}
 use Rattle.turn_lock.specs.declared.view.View.{View}
-use Rattle.turn_lock.specs.Journals.{entries_by, IsPrefix}
-use Rattle.turn_lock.specs.Views.{IsPass, HasTicket, IsAtRest, note_of, spent, hearing, settled, longest}
-use Rattle.turn_lock.specs.Locks.{Lock, At, Everyone, Someone, StandsFor, HasWidth, Deals, Numbered, Knows, Saw, Rule}
+use Rattle.turn_lock.specs.Journals.{IsPrefix}
+use Rattle.turn_lock.specs.Views.{IsPass, HasTicket, note_of, spent, hearing, settled, longest}
+use Rattle.turn_lock.specs.Locks.{Lock, At, StandsFor, HasWidth, Deals, Numbered, Knows, Saw, Rule}
 use Rattle.turn_lock.specs.Steps.{Copy, Hear, Settle, with_view, with_new}
-use Rattle.turn_lock.proofs.Seats.{there, everyone_set, everyone_new, someone_set, someone_new, someone_joined, everyone_joined, apart_less}
+use Rattle.turn_lock.proofs.Seats.{everyone_set, everyone_new, someone_set, someone_new, someone_joined, everyone_joined, apart_less}
 use Rattle.turn_lock.proofs.Numbers.{resting_pass, numbered_same, numbered_new}
 use Rattle.turn_lock.proofs.Lines.{line_same, line_new}
 use Rattle.turn_lock.proofs.Logs.{prefix_nil, knows_alone, own_entries, nothing_heard, longest_begins, longest_whole}

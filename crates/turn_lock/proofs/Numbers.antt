@@ -1,5 +1,5 @@
 -- The numbers of passes, and why no more passes than those stand in line.
-use Rattle.std.proofs.Common.{◌≡◌, ◌≢◌, ℕ, zero, suc, ◌+◌, ◌<◌, ◌≤◌, ◌⊎◌, List, [], ◌∷◌, ◌++◌, map, length, get_or, set, All, Contains, slice_index_or, sym, refl, ap, ◌∙◌, subst, inl, inr, ⊎_elim, arith}
+use Rattle.std.proofs.Common.{◌≡◌, ◌≢◌, ℕ, zero, suc, ◌<◌, ◌≤◌, List, [], ◌∷◌, ◌++◌, length, get_or, set, Contains, slice_index_or, sym, refl, ap, ◌∙◌, subst, arith}
 use mathlib.Core.Option.{some, some-injective, some-ne-none}
 use lib.ListN.{get_elem?}
 use Rattle.std.proofs.lemmas.List.{get_or_default}
@@ -9,10 +9,10 @@ use Rattle.turn_lock.specs.declared.view.Stage.{Stage}
 use Rattle.turn_lock.specs.declared.view.Stage.TheVariants.{Resting, Waiting, Called, Note, Spent}
 use Rattle.turn_lock.specs.declared.view.Part.{Part}
 use Rattle.turn_lock.specs.declared.view.View.{View}
-use Rattle.turn_lock.specs.Views.{IsPass, HasTicket, parts_of, parts_or, numbers_of, numbers_or, widths_or, own_part}
-use Rattle.turn_lock.specs.Locks.{At, Apart, Someone, Everyone, StandsFor, HasWidth, Deals, Numbered, InLine}
+use Rattle.turn_lock.specs.Views.{IsPass, HasTicket, numbers_or, widths_or}
+use Rattle.turn_lock.specs.Locks.{At, Everyone, StandsFor, HasWidth, Deals, Numbered, InLine}
 use Rattle.turn_lock.proofs.Pigeonhole.{at_most}
-use Rattle.turn_lock.proofs.Seats.{everyone_set, everyone_new, someone_set, someone_new, apart_less, apart_new, one_at}
+use Rattle.turn_lock.proofs.Seats.{everyone_set, everyone_new, someone_set, someone_new, apart_less, apart_new}
 
 pub resting_pass : (st : Stage) → st ≡ Resting → IsPass st
 resting_pass st is = subst IsPass (sym is) tt

@@ -1,15 +1,13 @@
 -- The steps that make, join and end passes are steps of the lock, so the rule allows them; and the rule holds at the start.
-use Rattle.std.proofs.Common.{◌≡◌, ◌≢◌, ℕ, zero, suc, ◌+◌, ◌%◌, ◌^◌, ◌<◌, ◌≤◌, ◌⊎◌, Option, Some, List, [], ◌∷◌, ◌++◌, map, length, get_or, set, slice_index_or, Contains, All, sym, refl, ap, ◌∙◌, subst, inl, inr, ⊎_elim, arith, mod-eq_of_lt, add-zero}
-use mathlib.Core.Option.{Option as Maybe, some, none, some-injective, some-ne-none}
-use lib.ListN.{get_elem?}
-use Rattle.atomic_table.specs.Table.{State, Me, Step, step, keeps, Allows, Splits, Joins, opening}
+use Rattle.std.proofs.Common.{◌≡◌, ℕ, zero, suc, ◌%◌, ◌^◌, ◌<◌, ◌≤◌, Option, Some, List, [], ◌∷◌, ◌++◌, map, get_or, set, All, sym, refl, ap, ◌∙◌, subst, inl, arith, mod-eq_of_lt, add-zero}
+use mathlib.Core.Option.{some, none, some-injective, some-ne-none}
+use Rattle.atomic_table.specs.Table.{step, keeps, Allows, Splits, Joins, opening}
 use Rattle.atomic_table.proofs.Lists.{set_again, set_else}
-use Rattle.turn_lock.specs.declared.view.Stage.{Stage}
-use Rattle.turn_lock.specs.declared.view.Stage.TheVariants.{Resting, Waiting, Called, Note, Spent}
+use Rattle.turn_lock.specs.declared.view.Stage.TheVariants.{Resting, Called, Note}
 use Rattle.turn_lock.specs.declared.view.View.{View}
-use Rattle.turn_lock.specs.Journals.{entries_by, IsPrefix, longer}
-use Rattle.turn_lock.specs.Views.{IsPass, HasTicket, IsAtRest, newcomer, dealt, next_pass, note_of, hearing, settled, gathered, spent, own_part, parts_of, numbers_of}
-use Rattle.turn_lock.specs.Locks.{Lock, At, Everyone, StandsFor, HasWidth, Deals, Knows, Saw, Rule}
+use Rattle.turn_lock.specs.Journals.{IsPrefix}
+use Rattle.turn_lock.specs.Views.{IsPass, HasTicket, IsAtRest, newcomer, dealt, next_pass, note_of, hearing, settled, gathered, spent}
+use Rattle.turn_lock.specs.Locks.{Lock, At, StandsFor, HasWidth, Deals, Knows, Rule}
 use Rattle.turn_lock.specs.Steps.{with_view, with_new}
 use Rattle.turn_lock.specs.Tables.{Hold, Standing, learned}
 use Rattle.turn_lock.proofs.Allowed.{at_lock}

@@ -1,10 +1,9 @@
 -- The slot, as views change that are not of the pass whose turn it is.
-use Rattle.std.proofs.Common.{◌≡◌, ◌≢◌, ℕ, ◌⊎◌, Option, List, [], ◌∷◌, ◌++◌, set, sym, refl, ap, ◌∙◌, subst, inl, inr, ⊎_elim}
-use mathlib.Core.Option.{Option as Maybe, some}
+use Rattle.std.proofs.Common.{◌≡◌, ℕ, ◌⊎◌, List, [], ◌∷◌, ◌++◌, set, sym, ap, ◌∙◌, subst, inl, inr, ⊎_elim}
 use lib.ListN.{get_elem?}
 use Rattle.atomic_table.proofs.Lists.{at_longer, set_else}
 use Rattle.turn_lock.specs.declared.view.Stage.{Stage}
-use Rattle.turn_lock.specs.declared.view.Stage.TheVariants.{Resting, Waiting, Called, Note, Spent}
+use Rattle.turn_lock.specs.declared.view.Stage.TheVariants.{Resting, Waiting, Called}
 use Rattle.turn_lock.specs.declared.view.View.{View}
 use Rattle.turn_lock.specs.Locks.{Lock, At, Everyone, AtHome, Away}
 use Rattle.turn_lock.proofs.Seats.{one_at, everyone_set, everyone_new}

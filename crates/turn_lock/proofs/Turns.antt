@@ -1,22 +1,21 @@
 -- The steps of a turn keep the rule.
-use Rattle.std.proofs.Common.{◌≡◌, ◌≢◌, ℕ, suc, ◌+◌, ◌%◌, ◌^◌, ◌<◌, ◌≤◌, ◌⊎◌, ◌==◌, Option, Some, List, [], ◌∷◌, ◌++◌, length, set, Contains, sym, refl, ap, ◌∙◌, subst, inl, inr, ⊎_elim, arith}
+use Rattle.std.proofs.Common.{◌≡◌, ℕ, ◌+◌, ◌%◌, ◌^◌, ◌<◌, ◌≤◌, ◌==◌, Option, Some, List, [], ◌∷◌, ◌++◌, length, set, sym, refl, ap, ◌∙◌, subst, inl, inr, ⊎_elim, arith}
 use mathlib.Core.Logic.{dite}
 use mathlib.Core.Option.{some, none, some-injective}
 use native.Mathlib.Decide.{ℕ_discrete}
-use lib.ListN.{get_elem?}
 use Rattle.atomic_table.proofs.Lists.{set_here}
 use Rattle.std.proofs.lemmas.List.Elements.{filter-append}
 use Rattle.turn_lock.specs.declared.view.Stage.{Stage}
-use Rattle.turn_lock.specs.declared.view.Stage.TheVariants.{Resting, Waiting, Called, Note, Spent}
+use Rattle.turn_lock.specs.declared.view.Stage.TheVariants.{Resting, Waiting, Called}
 use Rattle.turn_lock.specs.declared.view.View.{View}
-use Rattle.turn_lock.specs.Journals.{entries_by, IsPrefix, IsAtMostOne}
-use Rattle.turn_lock.specs.Views.{IsPass, HasTicket, IsAtRest, waiting, called, raised}
-use Rattle.turn_lock.specs.Locks.{Lock, At, Everyone, Someone, StandsFor, Knows, Saw, Seen, AtHome, Away, Rule}
-use Rattle.turn_lock.specs.Steps.{Draw, Look, Raise, drawn, taken, raises}
+use Rattle.turn_lock.specs.Journals.{entries_by, IsPrefix}
+use Rattle.turn_lock.specs.Views.{HasTicket, waiting, called, raised}
+use Rattle.turn_lock.specs.Locks.{Lock, At, Everyone, StandsFor, Knows, Saw, AtHome, Away, Rule}
+use Rattle.turn_lock.specs.Steps.{Draw, Look, TakeOut, PutBack, Raise, drawn, taken}
 use Rattle.turn_lock.proofs.Seats.{there, one_at, everyone_set, someone_set}
 use Rattle.turn_lock.proofs.Numbers.{resting_pass, ticket_pass, numbered_same, line_at_most, stands_for_own}
 use Rattle.turn_lock.proofs.Lines.{line_same, line_draw, line_raise, served_first}
-use Rattle.turn_lock.proofs.Logs.{prefix_itself, prefix_more, no_entry, its_entry, entries_more, own_entries, knows_alone, knows_more, nothing_heard}
+use Rattle.turn_lock.proofs.Logs.{prefix_itself, no_entry, its_entry, entries_more, own_entries, knows_alone, knows_more, nothing_heard}
 use Rattle.turn_lock.proofs.Slots.{NotCalled, slot_same, resting_not_called, waiting_not_called}
 
 pub no_ticket : (st : Stage) (t : ℕ) → st ≡ Resting → HasTicket st t → ⊥
@@ -127,6 +126,16 @@ module _ {S N : Type 0} (journal : S → List (ℕ × N)) (turns width : S → �
     where
       one_value : (x y : S) → some (Some x) ≡ some (Some y) → x ≡ y
       one_value x y is = grind arith
+
+  -- in a turn the slot is away, so what its seat does with it is no step of the words or the views
+  away_in_turn : (passes seat t : ℕ) (l : Lock S N) (r : Rule journal turns width passes l) (v : View N) → At l.views seat v → v.stage ≡ Called t → l.slot ≡ none
+  away_in_turn passes seat t l r v at turn = ⊎_elim (λ (h : AtHome journal turns width r.size r.log l). absurd (h.idle seat v at t turn)) (λ (a : Away journal turns width r.log l). a.slot) r.slot
+
+  pub take_out_keeps : (passes seat : ℕ) (inside inside' : Option S) (l l' : Lock S N) → Rule journal turns width passes l → TakeOut journal turns width seat inside inside' l l' → Rule journal turns width passes l' × (l'.slot ≡ none)
+  take_out_keeps passes seat inside inside' l l' r d = subst (λ (k : Lock S N). Rule journal turns width passes k × (k.slot ≡ none)) (sym d.becomes) (r, away_in_turn passes seat d.ticket l r d.view d.at d.turn)
+
+  pub put_back_keeps : (passes seat : ℕ) (inside inside' : Option S) (l l' : Lock S N) → Rule journal turns width passes l → PutBack journal turns width seat inside inside' l l' → Rule journal turns width passes l' × (l'.slot ≡ none)
+  put_back_keeps passes seat inside inside' l l' r d = subst (λ (k : Lock S N). Rule journal turns width passes k × (k.slot ≡ none)) (sym d.becomes) (r, away_in_turn passes seat d.ticket l r d.view d.at d.turn)
 
   pub raise_keeps : (passes seat : ℕ) (l l' : Lock S N) → Rule journal turns width passes l → Raise journal turns width seat l l' → Rule journal turns width passes l'
   raise_keeps passes seat l l' r d =

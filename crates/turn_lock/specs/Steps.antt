@@ -1,7 +1,7 @@
 -- The atomic steps of the lock, by kinds. Each is a relation between the lock before and after it.
 use Rattle.std.specs.Prelude.{◌≡◌, ◌≢◌, ℕ, ◌+◌, ◌%◌, ◌^◌, ◌<◌, Option, Some, None, List, [], ◌∷◌, ◌++◌, Contains, slice_set}
 use mathlib.Core.Option.{some, none}
-use Rattle.turn_lock.specs.Journals.{IsAtMostOne, IsPrefix, entries_by}
+use Rattle.turn_lock.specs.Journals.{IsAtMostOne}
 use Rattle.turn_lock.specs.Views.{IsAtRest, waiting, called, raised, dealt, next_pass, note_of, spent, hearing, settled, gathered, numbers_of}
 use Rattle.turn_lock.specs.Locks.{Lock, At}
 use Rattle.turn_lock.specs.declared.view.Stage.TheVariants.{Resting, Waiting, Called, Note}
@@ -36,6 +36,28 @@ module _ {S N : Type 0} (journal : S → List (ℕ × N)) (turns width : S → �
     pub early : l.serving ≢ t → l' ≡ l
     pub due : l.serving ≡ t → (y : S) × (l.slot ≡ some (Some y)) × (l' ≡ taken l seat view t y)
 
+  -- 3. The pass whose turn it is takes the value out of the slot, which is away with its seat: no word and no view changes.
+  pub record TakeOut (seat : ℕ) (inside inside' : Option S) (l l' : Lock S N) : Type 0 where
+    pub view : View N
+    pub ticket : ℕ
+    pub value : S
+    pub at : At l.views seat view
+    pub turn : view.stage ≡ Called ticket
+    pub has : inside ≡ Some value
+    pub leaves : inside' ≡ None
+    pub becomes : l' ≡ l
+
+  -- 4. It puts a value back into the slot: no word and no view changes.
+  pub record PutBack (seat : ℕ) (inside inside' : Option S) (l l' : Lock S N) : Type 0 where
+    pub view : View N
+    pub ticket : ℕ
+    pub value : S
+    pub at : At l.views seat view
+    pub turn : view.stage ≡ Called ticket
+    pub empty : inside ≡ None
+    pub has : inside' ≡ Some value
+    pub becomes : l' ≡ l
+
   -- 5. The pass whose turn it is puts the slot back, and one is added to the word that is served. The slot has a value of the same width and of one turn more, whose journal is what was seen, and at most one entry of the pass.
   abbrev pub raises : Lock S N → ℕ → View N → S → List (ℕ × N) → Lock S N
   raises l seat v y added = record (with_view l seat (raised v (journal y) added)) { serving = (l.serving + 1) % 2 ^ 64; slot = some (Some y) }
@@ -52,15 +74,6 @@ module _ {S N : Type 0} (journal : S → List (ℕ × N)) (turns width : S → �
     pub grows : journal value ≡ view.seen ++ added
     pub one : IsAtMostOne view.number added
     pub becomes : l' ≡ raises l seat view value added
-
-module _ {S : Type 0} where
-  -- 3. Takes the value out of the slot, which is away with the seat: no word and no view changes.
-  abbrev pub TakesOut : Option S → Option S → S → Type 0
-  TakesOut before after value = (before ≡ Some value) × (after ≡ None)
-
-  -- 4. Puts a value back into it.
-  abbrev pub PutsBack : Option S → Option S → S → Type 0
-  PutsBack before after value = (before ≡ None) × (after ≡ Some value)
 
 module _ {S N : Type 0} where
   -- 6. The pass that gives numbers out gives the next one to a new seat.

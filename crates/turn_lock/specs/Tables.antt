@@ -52,7 +52,7 @@ module _ {S N : Type 0} (journal : S → List (ℕ × N)) (turns width : S → �
     pub ticket : ℕ
     pub added : List (ℕ × N)
     pub turn : before.0.stage ≡ Called ticket
-    pub empty : before.1 ≡ (0, None) ∷ []
+    pub has : before.1 ≡ (0, Some value) ∷ []
     pub counts : turns value ≡ (ticket + 1) % 2 ^ 64
     pub keeps_width : width value ≡ before.0.width
     pub grows : journal value ≡ before.0.seen ++ added

@@ -5,10 +5,13 @@ ghost use Rattle.turn_lock.specs.Journals.{AddsAtMostOne};
 pub trait Kept {
     type Note;
 
+    // Each entry has the number of a pass, and a note.
     ghost journal: { Self → List (ℕ × Self.Note) };
 
+    // How many turns were taken, modulo 2^64.
     ghost turns: { Self → ℕ };
 
+    // A number that no change changes. A condition of a change may speak of it.
     ghost width: { Self → ℕ };
 
     /// How many turns were taken, modulo 2^64.
@@ -16,7 +19,7 @@ pub trait Kept {
         ensures { result ≡ turns self.now };
 }
 
-/// A change of a value, which is one turn.
+/// A change of a value, which is one turn. It adds at most one entry, and that last.
 pub trait Change<V: Kept> {
     type Answer;
 

@@ -5,6 +5,8 @@ mod kept;
 mod lock;
 mod pass;
 mod plays;
+#[cfg(test)]
+mod tests;
 mod turn;
 mod view;
 

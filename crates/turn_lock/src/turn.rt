@@ -15,7 +15,7 @@ use std::hint::spin_loop;
 use std::sync::Wait;
 use std::thread::yield_now;
 
-/// How often a waiting pass looks before it yields its processor.
+/// How often a waiting pass looks at the word that is served before it yields its processor.
 const LOOKS: u32 = 64;
 
 impl<V: Kept> TurnLock<V> {
@@ -32,10 +32,12 @@ impl<V: Kept> TurnLock<V> {
     {
         let mut value = self.begin(rt, &mut pass.seat);
         let answer = change.apply(pass.number, &mut value);
-        self.end(&mut pass.seat, value);
+        self.put_back(&mut pass.seat, value);
+        self.serve_next(&mut pass.seat);
         answer
     }
 
+    // Draws a ticket, waits until it is served, and takes the value out.
     fn begin<R: Wait>(&self, rt: &R, seat: &mut Seat<Option<V>, View<V::Note>>) -> V
         requires own { seat.old.table_id ≡ self.now.lock }
         requires rests { IsAtRest seat.old.me.0 }
@@ -48,13 +50,13 @@ impl<V: Kept> TurnLock<V> {
         self.take_out(rt, seat, ticket)
     }
 
-    fn end(&self, seat: &mut Seat<Option<V>, View<V::Note>>, value: V)
+    // Serves the next ticket. The slot is at home again.
+    fn serve_next(&self, seat: &mut Seat<Option<V>, View<V::Note>>)
         requires own { seat.old.table_id ≡ self.now.lock }
-        requires turn { Ending V.journal V.turns V.width seat.old.me value }
+        requires turn { (value : V) × Ending V.journal V.turns V.width seat.old.me value }
         ensures own { seat.new.table_id ≡ seat.old.table_id }
-        ensures ended { (added : List (ℕ × V.Note)) → V.journal value ≡ seat.old.me.0.seen ++ added → seat.new.me ≡ (raised seat.old.me.0 (V.journal value) added, []) }
+        ensures ended { (value : V) (added : List (ℕ × V.Note)) → seat.old.me.1 ≡ (0, Some value) ∷ [] → V.journal value ≡ seat.old.me.0.seen ++ added → seat.new.me ≡ (raised seat.old.me.0 (V.journal value) added, []) }
     {
-        self.put_back(seat, value);
         self.table.shared.fetch_add::<Raise>(seat, 1, 1);
     }
 

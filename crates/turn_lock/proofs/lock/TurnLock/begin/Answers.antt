@@ -1,4 +1,4 @@
-use Rattle.std.proofs.Common.{rules, ap}
+use Rattle.std.proofs.Common.{rules}
 use Rattle.turn_lock.proofs.Allowed.{draws}
 use Rattle.turn_lock.proofs.lock.TurnLock.begin.Goals as goal
 

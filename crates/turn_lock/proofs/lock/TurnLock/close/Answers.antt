@@ -1,4 +1,4 @@
-use Rattle.std.proofs.Common.{◌≡◌, ◌<◌, ◌≤◌, rules, ap, subst, length, vec_len, arith}
+use Rattle.std.proofs.Common.{◌≡◌, ◌<◌, rules, ap, subst, length, vec_len, arith}
 use Rattle.std.proofs.lemmas.List.{length-map}
 use Rattle.turn_lock.proofs.Ended.{closed, no_other}
 use Rattle.turn_lock.proofs.lock.TurnLock.close.Goals as goal
@@ -16,11 +16,11 @@ pub unreachable-requires : goal.unreachable-requires
 unreachable-requires g c =
     let passes : c.self.inside.table.shared.key.passes ≡ c.args.self.passes = ap (λ l. l.passes) c.self.view_is in
     no_other g.V.Kept.journal g.V.Kept.turns g.V.Kept.width c.self.inside.table.shared.key.passes _ c.args.passes.items c.gather-all.result.me.0 _ _ c.take-slot.result
-        c.close_with-closed.ensures.values.2 c.gather-all.ensures.rests c.gather-all.ensures.parts (λ n small. c.requires.each n (subst (λ k. n < k) passes small)) c.take-slot.ensures.value c.in_default.is
+    c.close_with-closed.ensures.values.2 c.gather-all.ensures.rests c.gather-all.ensures.parts (λ n small. c.requires.each n (subst (λ k. n < k) passes small)) c.take-slot.ensures.value c.in_default.is
 
 pub returns : goal.returns
 returns g c =
     let passes : c.self.inside.table.shared.key.passes ≡ c.args.self.passes = ap (λ l. l.passes) c.self.view_is in
     let ends = closed g.V.Kept.journal g.V.Kept.turns g.V.Kept.width c.self.inside.table.shared.key.passes _ c.args.passes.items c.gather-all.result.me.0 _ _ c.take-slot.result c.in-Some.value
-        c.close_with-closed.ensures.values.2 c.gather-all.ensures.rests c.gather-all.ensures.parts (λ n small. c.requires.each n (subst (λ k. n < k) passes small)) c.take-slot.ensures.value c.in-Some.is in
+    c.close_with-closed.ensures.values.2 c.gather-all.ensures.rests c.gather-all.ensures.parts (λ n small. c.requires.each n (subst (λ k. n < k) passes small)) c.take-slot.ensures.value c.in-Some.is in
     record { width = ends.wide; seen = ends.seen; mine = ends.mine; others = ends.others }

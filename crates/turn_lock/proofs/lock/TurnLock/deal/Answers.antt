@@ -1,7 +1,7 @@
-use Rattle.std.proofs.Common.{◌≡◌, ℕ, [], ◌∷◌, ◌++◌, ◌+◌, ◌-◌, ◌<◌, map, rules, arith, ap, ap₂, sym, subst, ◌∙◌}
+use Rattle.std.proofs.Common.{◌≡◌, [], ◌∷◌, ◌++◌, ◌-◌, map, rules, arith, ap, ap₂, sym, ◌∙◌}
 use Rattle.std.specs.List.{range_with_len}
 use Rattle.std.proofs.lemmas.List.FromFn.{map-range_with_len_more}
-use Rattle.turn_lock.specs.Views.{newcomer, dealt, next_pass}
+use Rattle.turn_lock.specs.Views.{dealt, next_pass}
 use Rattle.turn_lock.specs.Passes.{Token, fresh}
 use Rattle.turn_lock.proofs.Permitted.{deals}
 use Rattle.turn_lock.proofs.lock.TurnLock.deal.Goals as goal

@@ -1,4 +1,4 @@
-use Rattle.std.proofs.Common.{◌≡◌, ◌≤◌, ◌-◌, [], map}
+use Rattle.std.proofs.Common.{◌≡◌, ◌-◌, [], map}
 use Rattle.std.specs.List.{range_with_len}
 use Rattle.turn_lock.specs.Views.{newcomer}
 use Rattle.turn_lock.specs.Passes.{fresh}

@@ -1,4 +1,4 @@
-use Rattle.std.proofs.Common.{◌≡◌, rules, ap, ◌∙◌}
+use Rattle.std.proofs.Common.{rules, ap, ◌∙◌}
 use Rattle.turn_lock.proofs.Allowed.{looks}
 use Rattle.turn_lock.proofs.lock.TurnLock.look.Goals as goal
 

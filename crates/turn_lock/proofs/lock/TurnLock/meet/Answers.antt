@@ -1,6 +1,4 @@
-use Rattle.std.proofs.Common.{◌≡◌, [], ◌∷◌, rules, ap, ap₂, sym, subst, ◌∙◌}
-use Rattle.turn_lock.specs.Journals.{IsPrefix, longer}
-use Rattle.turn_lock.specs.Views.{note_of, hearing, settled}
+use Rattle.std.proofs.Common.{rules, ap, ◌∙◌}
 use Rattle.turn_lock.proofs.Permitted.{copies, hears, learns}
 use Rattle.turn_lock.proofs.lock.TurnLock.meet.Goals as goal
 

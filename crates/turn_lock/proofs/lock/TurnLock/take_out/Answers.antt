@@ -1,4 +1,4 @@
-use Rattle.std.proofs.Common.{◌≡◌, rules, ap, ◌∙◌, Some}
+use Rattle.std.proofs.Common.{rules, ap, ◌∙◌, Some}
 use Rattle.turn_lock.proofs.Allowed.{alone_carried}
 use Rattle.turn_lock.proofs.lock.TurnLock.take_out.Goals as goal
 
