@@ -82,9 +82,10 @@ fn by_lock<R: Threads + Wait + Sync>(rt: &R, alloc: Global, threads: u32, each: 
     requires { 1 ≤ threads }
 {
     let (lock, mut passes) = TurnLock::new(rt, alloc, Number { number: 0, turns: 0 }, threads)?;
+    let shared = &lock;
     let work = |_: usize, pass: &mut Pass<Number>|
-        requires { pass.now.lock ≡ lock.now.lock }
-    { take_turns(rt, &lock, pass, each) };
+        requires { pass.now.lock ≡ shared.now.lock }
+    { take_turns(rt, shared, pass, each) };
     thread::for_each_mut(rt, passes.as_mut_slice(), threads as usize, &work);
     Ok(())
 }
@@ -140,6 +141,18 @@ abbrev pub invariant-loop : goal.invariant-loop
 invariant-loop g l = l.pass.lock ≡ l.fn.pass.lock
 """
 
+ANSWERS = """\
+use Rattle.std.proofs.Common.{◌≡◌, rules, ap, sym, subst, ◌∙◌, All}
+use Rattle.turn_lock.proofs.Fresh.{fresh_own}
+use Rattle.turns.proofs.by_lock.Goals as goal
+
+pub for_each_mut-requires-clause-accepts : goal.for_each_mut-requires-clause-accepts
+for_each_mut-requires-clause-accepts g c κs within i p small same =
+    let lock = c.in_ok-lock.lock.lock in
+    let own = fresh_own lock 0 c.args.threads c.in_ok-lock.passes.items c.in_ok-lock.ensures.passes in
+    (ap (λ q. q.lock) same ∙ subst (All (λ q. q.lock ≡ lock)) (sym c.as_mut_slice.ensures.value) own i p.now small, search rules)
+"""
+
 
 def spent(folder, kind, threads, turns):
     words = [f"{folder}/crates/turns/out/turns", kind, str(threads), str(turns)]
@@ -158,6 +171,7 @@ def main():
         shutil.copytree("crates/turn_lock", f"{folder}/crates/turn_lock", ignore=shutil.ignore_patterns("out"))
         write(f"{folder}/crates/turns/src/main.rt", PROGRAM)
         write(f"{folder}/crates/turns/proofs/take_turns/Invariants.antt", INVARIANT)
+        write(f"{folder}/crates/turns/proofs/by_lock/Answers.antt", ANSWERS)
         write(f"{folder}/crates.txt", "turn_lock: atomic_table\nturns: turn_lock\n")
         subprocess.run(["rt", "run", "--", "lock", "1", "1"], cwd=f"{folder}/crates/turns", check=True, stdout=sys.stderr)
         print("| Threads | Turns a second, TurnLock | Turns a second, Mutex |")
