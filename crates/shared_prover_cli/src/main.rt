@@ -3,6 +3,8 @@
 
 mod answer;
 mod check;
+#[cfg(test)]
+mod check_tests;
 mod checking;
 mod command;
 mod limits;
