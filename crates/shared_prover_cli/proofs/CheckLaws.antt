@@ -9,7 +9,9 @@ use Rattle.cairo_model.specs.MachineAcceptance.{MachineAccepts, SpanHolds, AreIn
 use Rattle.cairo_model.specs.declared.fault.StepFault.{StepFault}
 use Rattle.shared_prover_cli.specs.RunFaults.{first_failing, holds, start_tests, end_tests, same_registers, cause_of, or_else, row_fault, first_absent, start_fault, end_fault, absent_in, states_fault, fault_of}
 use Rattle.shared_prover_cli.specs.declared.run_fault.RowCause.{RowCause}
+use Rattle.shared_prover_cli.specs.declared.run_fault.RowCause.TheVariants as causes
 use Rattle.shared_prover_cli.specs.declared.run_fault.RunFault.{RunFault}
+use Rattle.shared_prover_cli.specs.declared.run_fault.RunFault.TheVariants as faults
 
 -- ---- lists of tests
 
@@ -34,7 +36,7 @@ none_failing tests none = all_pass tests (none_is_past (nat_lt (position_or_len 
 
 whole_length : (tests : List Bool) → AllTrue tests → prefix_len (λ x. not (not x)) tests ≡ length tests
 whole_length [] all = refl
-whole_length (true ∷ bs) all = ap suc (whole_length bs all.1)
+whole_length (true ∷ bs) all = omega (arith, whole_length bs all.1)
 whole_length (false ∷ bs) all = absurd (let wrong = all.0 in cc)
 
 nothing_failing : (tests : List Bool) → AllTrue tests → first_failing tests ≡ None
@@ -79,13 +81,16 @@ same_is u t e =
 same_self : (t : Registers ℕ) → same_registers t t ≡ true
 same_self t = grind (arith, nat_tests)
 
+abbrev led_to : Registers ℕ → Result (Registers ℕ) StepFault
+led_to t = Ok t
+
+same_told : (b : Bool) (u t : Registers ℕ) (cause : RowCause) → same_registers u t ≡ b → cond b None (Some cause) ≡ None → u ≡ t
+same_told true u t cause is none = same_is u t is
+same_told false u t cause is none = absurd (cc)
+
 no_cause : (r : Result (Registers ℕ) StepFault) (t : Registers ℕ) → cause_of r t ≡ None → r ≡ Ok t
 no_cause (Err d) t e = absurd (cc)
-no_cause (Ok u) t e = told (same_registers u t) refl e
-  where
-    told : (b : Bool) → same_registers u t ≡ b → cond b None (Some _) ≡ None → Ok u ≡ Ok t
-    told true is none = ap Ok (same_is u t is)
-    told false is none = absurd (cc)
+no_cause (Ok u) t e = ap led_to (same_told (same_registers u t) u t causes.Next refl e)
 
 rows_run : (m : ℕ → Option ℕ) (n : ℕ) (s : Registers ℕ) (ts : List (Registers ℕ)) → row_fault m n s ts ≡ None → RunFrom field_arithmetic m s ts
 rows_run m n s [] none = tt
@@ -146,10 +151,10 @@ module _ (cert : CertRecord) (no_range : cert.range.stop ≡ cert.range.start) (
   accepted_states : (states : List (Registers ℕ)) → states_fault cert states ≡ None → absent_in cert ≡ None → cert.states ≡ states → MachineAccepts cert
   accepted_states [] none all_there same = absurd (cc)
   accepted_states (first ∷ rest) none all_there same =
-      first_none _ _ none (λ at_start after_start.
-      first_none _ _ after_start (λ at_end at_rows.
-      let starts = none_failing (start_tests cert first) (map_none _ _ at_start) in
-      let ends = none_failing (end_tests cert first (last_of first rest)) (map_none _ _ at_end) in
+      first_none (start_fault cert first) (or_else (end_fault cert first (last_of first rest)) (row_fault (cell_at cert.cells) 0 first rest)) none (λ at_start after_start.
+      first_none (end_fault cert first (last_of first rest)) (row_fault (cell_at cert.cells) 0 first rest) after_start (λ at_end at_rows.
+      let starts = none_failing (start_tests cert first) (map_none (λ k. faults.Start (k + 1)) (first_failing (start_tests cert first)) at_start) in
+      let ends = none_failing (end_tests cert first (last_of first rest)) (map_none (λ k. faults.End (k + 1)) (first_failing (end_tests cert first (last_of first rest))) at_end) in
       let outputs = present cert.cells cert.output.start 0 (cert.output.stop - cert.output.start) all_there in
       record {
         first = first;
@@ -175,7 +180,7 @@ module _ (cert : CertRecord) (no_range : cert.range.stop ≡ cert.range.start) (
       }))
 
   pub accepted : fault_of cert ≡ None → MachineAccepts cert
-  accepted none = first_none _ _ none (λ at_states at_outputs. accepted_states cert.states at_states (map_none _ _ at_outputs) refl)
+  accepted none = first_none (states_fault cert cert.states) (option_map faults.Output (absent_in cert)) none (λ at_states at_outputs. accepted_states cert.states at_states (map_none faults.Output (absent_in cert) at_outputs) refl)
 
 module _ (cert : CertRecord) (accepts : MachineAccepts cert) where
   clean_states : (states : List (Registers ℕ)) → RunsTo field_arithmetic (cell_at cert.cells) accepts.first states accepts.last → states_fault cert states ≡ None
@@ -197,3 +202,18 @@ module _ (cert : CertRecord) (accepts : MachineAccepts cert) where
 
   pub clean : fault_of cert ≡ None
   clean = rw (clean_states cert.states accepts.runs, all_there) refl
+
+no_value : {A : Type 0} (x : A) → Some x ≡ None → ⊥
+no_value x e = absurd (cc)
+
+-- what has a fault isn't accepted
+pub not_accepted : (cert : CertRecord) (fault : RunFault) → fault_of cert ≡ Some fault → MachineAccepts cert → ⊥
+not_accepted cert fault is accepts = no_value fault (sym is ∙ clean cert accepts)
+
+starts_somewhere : (m : ℕ → Option ℕ) (s t : Registers ℕ) (states : List (Registers ℕ)) → RunsTo field_arithmetic m s states t → 0 < length states
+starts_somewhere m s t [] run = absurd run
+starts_somewhere m s t (u ∷ us) run = omega arith
+
+-- what is accepted has a state
+pub has_state : (cert : CertRecord) → MachineAccepts cert → 0 < length cert.states
+has_state cert accepts = starts_somewhere (cell_at cert.cells) accepts.first accepts.last cert.states accepts.runs

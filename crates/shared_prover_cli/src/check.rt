@@ -1,4 +1,4 @@
-ghost use Rattle.std.specs.Prelude.{◌≡◌, ◌↔◌, ℕ, IfOk, IsTrue, Some, None};
+ghost use Rattle.std.specs.Prelude.{◌≡◌, ◌↔◌, ◌-◌, IfOk, IsTrue, None, length};
 ghost use Rattle.cairo_model.specs.Certificates.{CertRecord};
 ghost use Rattle.cairo_model.specs.MachineAcceptance.{MachineAccepts};
 ghost use Rattle.shared_prover_cli.specs.Answers.{CheckLine, outcome_number};
@@ -27,11 +27,7 @@ pub fn check_answer(alloc: Global, input: &[u8]) -> Result<Answer, AllocError>
     match checked_outputs(alloc, &cert) {
         Ok(outputs) => Ok(Answer {
             outcome: Outcome::Done,
-            text: accepted_line(
-                alloc,
-                (cert.states.len() as u64).saturating_sub(1),
-                outputs.as_slice(),
-            )?,
+            text: accepted_line(alloc, steps_of(&cert), outputs.as_slice())?,
         }),
         Err(End::Refused(fault)) => Ok(refused(fault_line(alloc, fault)?)),
         Err(End::OutOfMemory) => Err(AllocError),
@@ -45,6 +41,13 @@ fn refused(text: Vec<u8>) -> Answer
         outcome: Outcome::Refused,
         text,
     }
+}
+
+// The number of states less one.
+fn steps_of(cert: &Cert) -> u64
+    ensures { result ≡ length cert.now.states - 1 }
+{
+    (cert.states.len() as u64).saturating_sub(1)
 }
 
 // Whether a certificate is of a PIE alone, with no cells of builtins.
