@@ -7,8 +7,6 @@ mod lone_certificate;
 mod lone_layout;
 mod relocating;
 mod sorting;
-#[cfg(test)]
-mod tests;
 mod values;
 
 pub use laws::{keeps_arithmetic, keeps_runs, keeps_steps, runs_anywhere, states_stay};

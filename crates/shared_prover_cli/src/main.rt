@@ -2,6 +2,8 @@
 #![tactic(auto)]
 
 mod answer;
+#[cfg(test)]
+mod asking;
 mod check;
 #[cfg(test)]
 mod check_tests;
@@ -10,6 +12,8 @@ mod command;
 mod limits;
 mod memory;
 mod place;
+#[cfg(test)]
+mod placing_tests;
 mod real;
 mod replay;
 #[cfg(test)]
