@@ -3,8 +3,8 @@
 
 Usage: measure.py COMMAND FILE [FILE ..]    (run it at the repository's top, after ./shared_prover has built the program)
 
-Each file is given five times on standard input; the best time counts. Memory is the greatest resident size of all runs of
-that file.
+Each file is given ten times on standard input; the best time counts, less that of an empty input, which is the price of a
+process. Memory is the greatest resident size, as GNU time tells it.
 """
 import os
 import subprocess
@@ -14,30 +14,36 @@ import time
 PROGRAM = "crates/shared_prover_cli/out/shared_prover_cli"
 
 
-def measured(command, path):
-    best, peak = None, 0
-    for _ in range(5):
+def best_time(command, path):
+    best = None
+    for _ in range(10):
         with open(path, "rb") as source:
             start = time.perf_counter()
-            child = subprocess.Popen([PROGRAM, command], stdin=source, stdout=subprocess.DEVNULL)
-            _, status, usage = os.wait4(child.pid, 0)
+            subprocess.run([PROGRAM, command], stdin=source, stdout=subprocess.DEVNULL, check=False)
             spent = time.perf_counter() - start
-        if os.waitstatus_to_exitcode(status) != 0:
-            sys.exit(f"{path}: exit status {os.waitstatus_to_exitcode(status)}")
         best = spent if best is None else min(best, spent)
-        peak = max(peak, usage.ru_maxrss)
-    return best, peak
+    return best
+
+
+def peak_memory(command, path):
+    with open(path, "rb") as source:
+        run = subprocess.run(
+            ["/usr/bin/time", "-f", "%M", PROGRAM, command],
+            stdin=source, stdout=subprocess.DEVNULL, stderr=subprocess.PIPE, check=True, text=True)
+    return int(run.stderr.split()[-1])
 
 
 def main():
     command, paths = sys.argv[1], sys.argv[2:]
+    process = best_time(command, os.devnull)
     print("| File | Bytes | Time (ms) | Growth | Peak memory (KiB) | Growth |")
     print("|---|---|---|---|---|---|")
     last = None
     for path in paths:
-        spent, peak = measured(command, path)
+        spent, peak = best_time(command, path) - process, peak_memory(command, path)
         grown = ("", "") if last is None else (f"{spent / last[0]:.1f}", f"{peak / last[1]:.1f}")
-        print(f"| {os.path.basename(path)} | {os.path.getsize(path)} | {spent * 1000:.1f} | {grown[0]} | {peak} | {grown[1]} |")
+        size = os.path.getsize(path)
+        print(f"| {os.path.basename(path)} | {size} | {spent * 1000:.2f} | {grown[0]} | {peak} | {grown[1]} |")
         last = (spent, peak)
 
 
