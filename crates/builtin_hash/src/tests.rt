@@ -138,3 +138,10 @@ fn hashes_are_ordered_by_their_words(rt: HostRuntime) {
     assert!(rt; are_equal(&five, &five));
     assert!(rt; !are_equal(&empty, &five));
 }
+
+#[test]
+fn the_laws_need_nothing_of_their_caller() {
+    laws::instance_laws();
+    laws::chain_laws();
+    laws::program_hash_laws();
+}

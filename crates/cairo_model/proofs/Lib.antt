@@ -5,3 +5,4 @@ pub mod Rules
 pub mod RunLaws
 pub mod Searching
 pub mod CellLemmas
+pub mod Stretches

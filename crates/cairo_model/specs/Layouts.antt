@@ -10,11 +10,36 @@ use Rattle.cairo_model.specs.FieldMemories.{FieldCell}
 abbrev pub base_of : List ℕ → ℕ → ℕ
 base_of bases segment = slice_index bases segment
 
+abbrev pub IsInBounds : ℕ → Type 0
+IsInBounds base = (1 ≤ base) × (base < 2 ^ 32)
+
+abbrev pub AreInBounds : List ℕ → Type 0
+AreInBounds bases = All IsInBounds bases
+
+-- no address lies in both of two stretches
+abbrev pub ShareNone : ℕ → ℕ → ℕ → ℕ → Type 0
+ShareNone base size other other_size = (o q : ℕ) → o < size → q < other_size → base + o ≢ other + q
+
+-- two segments share no address
+abbrev pub IsApartFrom : List ℕ → List ℕ → ℕ → ℕ → Type 0
+IsApartFrom bases sizes s t = s ≢ t → ShareNone (base_of bases s) (slice_index sizes s) (base_of bases t) (slice_index sizes t)
+
+-- a segment shares no address with any other
+abbrev pub IsApart : List ℕ → List ℕ → ℕ → Type 0
+IsApart bases sizes s = (t : ℕ) → t < length sizes → IsApartFrom bases sizes s t
+
+abbrev pub AreApart : List ℕ → List ℕ → Type 0
+AreApart bases sizes = (s : ℕ) → s < length sizes → IsApart bases sizes s
+
+pub record KeepApart (bases sizes : List ℕ) : Type 0 where
+  pub in_bounds : AreInBounds bases
+  pub apart : AreApart bases sizes
+
 -- One base for each segment, each from 1 to below 2 ^ 32, and no address in the stretches of two segments.
 pub record Fits (bases sizes : List ℕ) : Type 0 where
   pub one_each : length bases ≡ length sizes
-  pub in_bounds : All (λ b. (1 ≤ b) × (b < 2 ^ 32)) bases
-  pub apart : (s t o q : ℕ) → s ≢ t → s < length sizes → t < length sizes → o < slice_index sizes s → q < slice_index sizes t → base_of bases s + o ≢ base_of bases t + q
+  pub in_bounds : AreInBounds bases
+  pub apart : AreApart bases sizes
 
 -- a number is itself, and a place is the address that lies its offset above its segment's base
 abbrev pub relocated : List ℕ → Datum → ℕ

@@ -31,6 +31,13 @@ impl Cells {
         Cells { list }
     }
 
+    /// The cells in the order of their addresses. Takes no memory.
+    pub fn as_slice(&self) -> &[(Felt, Felt)]
+        ensures { map field_cell result.now ≡ self.now }
+    {
+        self.list.as_slice()
+    }
+
     /// The value at an address. Takes no memory, and a number of looks that is logarithmic in that of the cells.
     pub fn get(&self, address: Felt) -> Option<Felt>
         ensures { option_map (λ f. f.number) result ≡ cell_at self.now address.number }

@@ -1,2 +1,4 @@
 mod KeptBytes
 mod WordLemmas
+pub mod CheckLemmas
+pub mod CheckLaws

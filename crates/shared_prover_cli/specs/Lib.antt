@@ -1,8 +1,10 @@
 pub mod Answers
+pub mod CheckAnswers
 pub mod Commands
 pub mod Exits
 pub mod Faults
 pub mod MemoryStreams
+pub mod RunFaults
 pub mod Runs
 pub mod Texts
 pub mod WholeStreams

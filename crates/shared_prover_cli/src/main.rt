@@ -1,13 +1,25 @@
 // The program: its streams, its commands and its exit statuses.
 #![tactic(auto)]
 
+mod answer;
+#[cfg(test)]
+mod asking;
+mod check;
+#[cfg(test)]
+mod check_tests;
+mod checking;
+mod command;
 mod limits;
 mod memory;
+mod place;
+#[cfg(test)]
+mod placing_tests;
 mod real;
 mod replay;
 #[cfg(test)]
 mod replay_tests;
 mod run;
+mod run_fault;
 mod status;
 mod stream;
 mod sure;
@@ -56,7 +68,7 @@ fn arguments<R: Env + AllocGlobal>(rt: &R) -> Result<Vec<String>, Status> {
 // What standard error says of a run that wrote nothing.
 fn explanation(status: Status) -> Option<&'static str> {
     match status {
-        Status::Usage => Some("usage: shared_prover replay"),
+        Status::Usage => Some("usage: shared_prover replay | place | check"),
         Status::ReadFault => Some("the input could not be read"),
         Status::OutOfMemory => Some("out of memory"),
         Status::TooLong => Some("the input is longer than 201326592 bytes"),

@@ -1,20 +1,8 @@
-use crate::memory::{MemSink, MemSource};
-use crate::run::run_plain;
-use crate::status::Status;
+use crate::asking::answer;
 use crate::vectors::{ADDR, BACK, EMPTY, FIVE, JUMP, PROD, RANGE_MAX, TALL, UNDER};
 use hex::decode;
 use std::alloc::Global;
 use std::test::Fail;
-
-// What `replay` ends with over these bytes, and what it writes.
-fn answer(rt: &HostRuntime, bytes: Vec<u8>) -> Result<(u8, Vec<u8>), Fail> {
-    let mut words = Vec::new(rt.alloc());
-    words.push("replay".to_string(rt.alloc())?)?;
-    let mut source = MemSource::new(bytes, 1000, Vec::new(rt.alloc()));
-    let mut sink = MemSink::new(rt.alloc(), 100, 100, Vec::new(rt.alloc()))?;
-    let status = run_plain(rt.alloc(), rt, words.as_slice(), &mut source, &mut sink);
-    Ok((status.number(), sink.bytes().to_vec(rt.alloc())?))
-}
 
 // FIVE with other bytes from this place on.
 fn five_with(alloc: Global, at: usize, bytes: &[u8]) -> Result<Vec<u8>, Fail> {
@@ -51,7 +39,7 @@ fn named_files_have_their_answers(rt: HostRuntime) -> Result<(), Fail> {
         (RANGE_MAX, 1, "not built\n"),
         ("", 1, "refused file\n"),
     ] {
-        let found = answer(&rt, decode(rt.alloc(), digits)?)?;
+        let found = answer(&rt, "replay", decode(rt.alloc(), digits)?)?;
         assert_eq!(rt; found.0, status, "{text}");
         assert_eq!(rt; found.1.as_slice(), text.as_bytes(), "{text}");
     }
@@ -77,7 +65,7 @@ fn files_near_five_have_their_answers(rt: HostRuntime) -> Result<(), Fail> {
         (93, &[0], refused),
         (80, &[0xc8], alone),
     ] {
-        let found = answer(&rt, five_with(alloc, at, bytes)?)?;
+        let found = answer(&rt, "replay", five_with(alloc, at, bytes)?)?;
         assert_eq!(rt; found.0, 1, "{at}");
         assert_eq!(rt; found.1.as_slice(), text.as_bytes(), "{at}");
     }
@@ -85,12 +73,21 @@ fn files_near_five_have_their_answers(rt: HostRuntime) -> Result<(), Fail> {
     if let Some(place) = other_stop.get_mut(311) {
         *place = 2;
     }
-    assert_eq!(rt; answer(&rt, other_stop)?.1.as_slice(), alone.as_bytes());
+    assert_eq!(rt;
+        answer(&rt, "replay", other_stop)?.1.as_slice(),
+        alone.as_bytes()
+    );
     let mut longer = five.clone()?;
     longer.push(0)?;
-    assert_eq!(rt; answer(&rt, longer)?.1.as_slice(), refused.as_bytes());
+    assert_eq!(rt;
+        answer(&rt, "replay", longer)?.1.as_slice(),
+        refused.as_bytes()
+    );
     let shorter = five.get(..359).unwrap_or(&[]).to_vec(alloc)?;
-    assert_eq!(rt; answer(&rt, shorter)?.1.as_slice(), refused.as_bytes());
+    assert_eq!(rt;
+        answer(&rt, "replay", shorter)?.1.as_slice(),
+        refused.as_bytes()
+    );
     Ok(())
 }
 
@@ -104,7 +101,7 @@ fn an_output_may_be_any_field_number(rt: HostRuntime) -> Result<(), Fail> {
             }
         }
     }
-    let found = answer(&rt, five)?;
+    let found = answer(&rt, "replay", five)?;
     assert_eq!(rt;
         found.1.as_slice(),
         b"admitted outputs 18446744069414584320\n".as_slice()
@@ -171,7 +168,11 @@ fn metadata_is_what_json_reads(rt: HostRuntime) -> Result<(), Fail> {
         ("null", false),
         ("", false),
     ] {
-        let found = answer(&rt, five_with_metadata(rt.alloc(), text.as_bytes())?)?;
+        let found = answer(
+            &rt,
+            "replay",
+            five_with_metadata(rt.alloc(), text.as_bytes())?,
+        )?;
         let wanted = if is_read {
             "admitted outputs 5\n"
         } else {
@@ -181,7 +182,7 @@ fn metadata_is_what_json_reads(rt: HostRuntime) -> Result<(), Fail> {
     }
     let not_utf8 = five_with(rt.alloc(), 14, &[0xff])?;
     assert_eq!(rt;
-        answer(&rt, not_utf8)?.1.as_slice(),
+        answer(&rt, "replay", not_utf8)?.1.as_slice(),
         b"refused file\n".as_slice()
     );
     Ok(())

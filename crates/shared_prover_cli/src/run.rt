@@ -1,14 +1,15 @@
-ghost use Rattle.std.specs.Prelude.{◌≡◌, ◌≢◌, ◌↔◌, IsTrue};
+ghost use Rattle.std.specs.Prelude.{◌≡◌, ◌≢◌, ◌↔◌};
 ghost use Rattle.std.specs.Io.KnownBytes.{Appends};
 ghost use Rattle.shared_prover_cli.specs.Answers.{outcome_number};
-ghost use Rattle.shared_prover_cli.specs.Commands.{AsksToReplay};
+ghost use Rattle.shared_prover_cli.specs.Commands.{AsksForNothing};
 ghost use Rattle.shared_prover_cli.specs.Exits.{EndsWriting, IsSilent};
 ghost use Rattle.shared_prover_cli.specs.Faults.{Rose};
 ghost use Rattle.shared_prover_cli.specs.Runs.{Answers, AnswersInPart};
 ghost use Rattle.shared_prover_cli.specs.WholeStreams.{AppendsPart, ConsumesAtMost, ConsumesMoreThan};
 
+use crate::answer::{Answer, Outcome, answer_to};
+use crate::command::command_in;
 use crate::limits::INPUT_LIMIT;
-use crate::replay::{Answer, Outcome, answer_to};
 use crate::status::Status;
 use crate::stream::{Sink, Source};
 use crate::whole::{InputFault, read_whole, write_whole};
@@ -23,16 +24,15 @@ pub fn run_plain<R: Sync, S: Source, K: Sink>(
     sink: &mut K,
 ) -> Status
     // Usage comes exactly at other words, and then nothing was read.
-    ensures usage { (result ≡ Status.Usage) ↔ ¬ AsksToReplay words.now }
-    ensures asked { result ≢ Status.Usage → AsksToReplay words.now }
+    ensures usage { (result ≡ Status.Usage) ↔ AsksForNothing words.now }
     ensures unread { result ≡ Status.Usage → source.new ≡ source.old }
     // At these statuses nothing was written, and at `Done` and `Refused` the whole text.
     ensures unwritten { IsSilent result → sink.new ≡ sink.old }
-    ensures done { result ≡ Status.Done → Answers
+    ensures done { result ≡ Status.Done → Answers words.now
         (S.left source.old) (S.left source.new) (K.held sink.old) (K.held sink.new) 0 }
-    ensures refused { result ≡ Status.Refused → Answers
+    ensures refused { result ≡ Status.Refused → Answers words.now
         (S.left source.old) (S.left source.new) (K.held sink.old) (K.held sink.new) 1 }
-    ensures cut { result ≡ Status.WriteFault → AnswersInPart
+    ensures cut { result ≡ Status.WriteFault → AnswersInPart words.now
         (S.left source.old) (S.left source.new) (K.held sink.old) (K.held sink.new) }
 
     // The other statuses, each by its cause. Want of memory alone is free.
@@ -46,27 +46,18 @@ pub fn run_plain<R: Sync, S: Source, K: Sink>(
     ensures within { result ≢ Status.TooLong →
         ConsumesAtMost INPUT_LIMIT (S.left source.old) (S.left source.new) }
 {
-    if !asks_to_replay(words) {
+    let Some(command) = command_in(words) else {
         return Status::Usage;
-    }
+    };
     let input = match read_whole(alloc, source, INPUT_LIMIT) {
         Ok(input) => input,
         Err(InputFault::ReadFault) => return Status::ReadFault,
         Err(InputFault::TooLong) => return Status::TooLong,
         Err(InputFault::OutOfMemory) => return Status::OutOfMemory,
     };
-    match answer_to(alloc, input.as_slice()) {
+    match answer_to(alloc, command, input.as_slice()) {
         Ok(answer) => written(&answer, sink),
         Err(AllocError) => Status::OutOfMemory,
-    }
-}
-
-fn asks_to_replay(words: &[String]) -> bool
-    ensures { IsTrue result ↔ AsksToReplay words.now }
-{
-    match words {
-        [word] => word.as_str() == "replay",
-        _ => false,
     }
 }
 

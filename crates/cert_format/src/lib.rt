@@ -1,0 +1,19 @@
+//! The bytes of certificates.
+#![tactic(auto)]
+
+mod draft;
+mod fields;
+mod laws;
+mod lists;
+mod order;
+mod parts;
+mod reading;
+mod refusal;
+#[cfg(test)]
+mod tests;
+mod writing;
+
+pub use laws::{one_certificate, reads_back};
+pub use reading::read_cert;
+pub use refusal::CertRefusal;
+pub use writing::write_cert;

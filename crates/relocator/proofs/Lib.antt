@@ -1,0 +1,16 @@
+pub mod Apart
+pub mod Carrying
+pub mod CellCount
+pub mod Finding
+pub mod Homomorphism
+pub mod ListFacts
+pub mod ListsIn
+pub mod LoneAcceptance
+pub mod LoneCertificate
+pub mod LoneLayout
+pub mod PieMemories
+pub mod PlacedCells
+pub mod PlacedRuns
+pub mod RunsPlaced
+pub mod Spelling
+pub mod Staying

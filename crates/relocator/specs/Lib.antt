@@ -1,0 +1,5 @@
+pub mod Lists
+pub mod LoneCertificates
+pub mod Placing
+pub mod Relocations
+pub mod Staying

@@ -1,0 +1,47 @@
+-- Relocation carries the machine over values to the machine over the field (docs/MACHINE.md).
+use Rattle.std.specs.Prelude.{ℕ, ◌≡◌, ◌^◌, ◌<◌, ◌≤◌, List, length, map, All, Option, Some}
+use Rattle.goldi_field.specs.Numbers.{sum_of, difference_of, product_of}
+use Rattle.cairo_model.specs.Values.{Datum, number, place, Sum, Difference, Product, is_zero_datum}
+use Rattle.cairo_model.specs.Machine.{Registers, field_arithmetic, value_arithmetic, Step, Run, RunsTo}
+use Rattle.cairo_model.specs.Pies.{MemoryCell, IsValueIn, memory_of}
+use Rattle.cairo_model.specs.Layouts.{relocated, relocated_state}
+
+-- a place's segment is below so many
+abbrev pub IsIn : ℕ → Datum → Type 0
+IsIn segments (number n) = Unit {0}
+IsIn segments (place s o) = s < segments
+
+-- the bounds that a layout keeps
+abbrev pub AreBases : List ℕ → Type 0
+AreBases bases = All (λ b. (1 ≤ b) × (b < 2 ^ 32)) bases
+
+-- each value of a memory is a field number, or a place in one of so many segments
+abbrev pub AllValuesIn : ℕ → (Datum → Option Datum) → Type 0
+AllValuesIn segments m = (a v : Datum) → m a ≡ Some v → IsValueIn segments v
+
+-- the field memory has each cell of the memory, relocated
+abbrev pub HasRelocated : List ℕ → (Datum → Option Datum) → (ℕ → Option ℕ) → Type 0
+HasRelocated bases m field = (a v : Datum) → m a ≡ Some v → field (relocated bases a) ≡ Some (relocated bases v)
+
+-- Relocation is a homomorphism of the two arithmetics where value arithmetic is defined.
+pub record KeepsArithmetic (bases : List ℕ) : Type 0 where
+  pub sums : (a b c : Datum) → Sum a b ≡ Some c → relocated bases c ≡ sum_of (relocated bases a) (relocated bases b)
+  pub differences : (a b c : Datum) → IsValueIn (length bases) a → IsValueIn (length bases) b → Difference a b ≡ Some c
+      → relocated bases c ≡ difference_of (relocated bases a) (relocated bases b)
+  pub products : (a b c : Datum) → Product a b ≡ Some c → relocated bases c ≡ product_of (relocated bases a) (relocated bases b)
+  pub zeros : (a : Datum) → IsValueIn (length bases) a → is_zero_datum a ≡ field_arithmetic.is_zero (relocated bases a)
+
+abbrev pub KeepsSteps : List ℕ → Type 0
+KeepsSteps bases = (m : Datum → Option Datum) (field : ℕ → Option ℕ) → AllValuesIn (length bases) m → HasRelocated bases m field
+    → (s t : Registers Datum) → Step value_arithmetic m s t → Step field_arithmetic field (relocated_state bases s) (relocated_state bases t)
+
+abbrev pub KeepsRuns : List ℕ → Type 0
+KeepsRuns bases = (m : Datum → Option Datum) (field : ℕ → Option ℕ) → AllValuesIn (length bases) m → HasRelocated bases m field
+    → (ss : List (Registers Datum)) → Run value_arithmetic m ss → Run field_arithmetic field (map (relocated_state bases) ss)
+
+-- A run over these cells from one state to another, relocated, is a run over each field memory that has the relocated
+-- cells.
+abbrev pub RunsOverField : List ℕ → List MemoryCell → Type 0
+RunsOverField bases cells = (field : ℕ → Option ℕ) → HasRelocated bases (memory_of cells) field
+    → (s t : Registers Datum) (ss : List (Registers Datum)) → RunsTo value_arithmetic (memory_of cells) s ss t
+    → RunsTo field_arithmetic field (relocated_state bases s) (map (relocated_state bases) ss) (relocated_state bases t)

@@ -1,0 +1,37 @@
+ghost use Rattle.std.specs.Prelude.{ℕ, List, length};
+ghost use Rattle.cairo_model.specs.Layouts.{Fits};
+ghost use Rattle.cairo_model.specs.Pies.{PieRecord, KeepsRules};
+ghost use Rattle.relocator.specs.Relocations.{AreBases, KeepsArithmetic, KeepsSteps, KeepsRuns, RunsOverField};
+ghost use Rattle.relocator.specs.Staying.{StatesStay};
+
+/// Where the arithmetic of values is defined, the field agrees with it.
+pub fn keeps_arithmetic()
+    ensures { (bases : List ℕ) → AreBases bases → KeepsArithmetic bases }
+{}
+
+/// A step over values, relocated, is a step over each field memory that has the relocated cells.
+pub fn keeps_steps()
+    ensures { (bases : List ℕ) → AreBases bases → KeepsSteps bases }
+{
+    keeps_arithmetic();
+}
+
+/// So is a run over values.
+pub fn keeps_runs()
+    ensures { (bases : List ℕ) → AreBases bases → KeepsRuns bases }
+{
+    keeps_arithmetic();
+}
+
+/// At each layout that fits, each run over the cells of a PIE is a run over each field memory that has the relocated
+/// cells.
+pub fn runs_anywhere()
+    ensures { (bases : List ℕ) (pie : PieRecord) → Fits bases pie.sizes → KeepsRules pie → RunsOverField bases pie.cells }
+{
+    keeps_arithmetic();
+}
+
+/// A run over the cells of a PIE that begins in its segments stays there.
+pub fn states_stay()
+    ensures { (pie : PieRecord) → KeepsRules pie → StatesStay (length pie.sizes) pie.cells }
+{}

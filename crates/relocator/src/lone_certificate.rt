@@ -1,0 +1,59 @@
+ghost use Rattle.std.specs.Prelude.{◌≡◌, ◌≤◌, ◌<◌, ◌^◌, length, slice_index, IfOk};
+ghost use Rattle.cairo_model.specs.Acceptance.{CheckedRecord, AcceptedWith};
+ghost use Rattle.cairo_model.specs.Certificates.{CertRecord};
+ghost use Rattle.cairo_model.specs.CertificateViews.{span_of};
+ghost use Rattle.cairo_model.specs.Layouts.{base_of};
+ghost use Rattle.cairo_model.specs.MachineAcceptance.{MachineAccepts};
+ghost use Rattle.cairo_model.specs.Pies.{segment_size};
+ghost use Rattle.relocator.specs.Lists.{numbers};
+ghost use Rattle.relocator.specs.LoneCertificates.{IsLoneCertificate, stretch_of};
+
+use crate::laws::{keeps_arithmetic, runs_anywhere};
+use crate::lone_layout::{alone, lone_layout_fits};
+use crate::relocating::relocate;
+use cairo_model::{Cells, Cert, Checked, Kind, Span, felt_of};
+use goldi_field::Felt;
+use std::alloc::{AllocError, Global};
+
+/// The certificate of a PIE alone: its isolated run where the layout alone puts it (docs/CERTIFICATE.md).
+pub fn lone_cert(alloc: Global, checked: &Checked) -> Result<Cert, AllocError>
+    ensures certificate { IfOk result (λ cert. IsLoneCertificate checked.now cert) }
+    ensures accepted { IfOk result (λ cert. segment_size checked.now.pie 3 ≡ 0 → segment_size checked.now.pie 4 ≡ 0 → MachineAccepts cert) }
+{
+    lone_certificates_hold();
+    // That the PIE is accepted, as `alone` asks, is what this ensures.
+    let _run = checked.states();
+    let layout = alone(alloc, checked.pie())?;
+    let placed = relocate(alloc, checked, &layout)?;
+    let bases = layout.bases.as_slice();
+    let sizes = checked.pie().sizes.as_slice();
+    Ok(Cert {
+        kind: Kind::Alone,
+        output: stretch(bases, sizes, 2),
+        range: stretch(bases, sizes, 3),
+        hash: stretch(bases, sizes, 4),
+        tasks: Vec::new(alloc),
+        cells: Cells::of(placed.cells),
+        states: placed.states,
+    })
+}
+
+fn stretch(bases: &[Felt], sizes: &[u32], segment: usize) -> Span
+    requires has_base { segment < length bases.now }
+    requires has_size { segment < length sizes.now }
+    requires low { base_of (numbers bases.now) segment < 2 ^ 32 }
+    ensures { span_of result ≡ stretch_of (numbers bases.now) sizes.now segment }
+{
+    let start = bases[segment];
+    let stop = start.add(felt_of(sizes[segment]));
+    Span { start, stop }
+}
+
+/// The machine accepts the certificate of a PIE alone that has no cells of builtins.
+pub fn lone_certificates_hold()
+    ensures { (checked : CheckedRecord) (cert : CertRecord) → AcceptedWith checked.pie checked.outputs checked.states → IsLoneCertificate checked cert → segment_size checked.pie 3 ≡ 0 → segment_size checked.pie 4 ≡ 0 → MachineAccepts cert }
+{
+    keeps_arithmetic();
+    runs_anywhere();
+    lone_layout_fits();
+}

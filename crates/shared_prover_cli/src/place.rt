@@ -1,0 +1,35 @@
+ghost use Rattle.std.specs.Prelude.{IfOk, Ok};
+ghost use Rattle.cert_format.specs.Spelling.{spelling};
+ghost use Rattle.relocator.specs.LoneCertificates.{IsLoneCertificate};
+ghost use Rattle.shared_prover_cli.specs.Answers.{IsPlaced, PlaceAnswer, outcome_number};
+
+use crate::answer::{Answer, Outcome};
+use crate::texts::refusal_line;
+use cairo_model::{Checked, End};
+use cert_format::write_cert;
+use pie_replay::admit;
+use relocator::lone_cert;
+use std::alloc::{AllocError, Global};
+
+/// The certificate of the PIE whose file the input is, where it is accepted alone.
+pub fn place_answer(alloc: Global, input: &[u8]) -> Result<Answer, AllocError>
+    ensures { IfOk result (λ a. PlaceAnswer input.now (outcome_number a.outcome) a.text.items) }
+{
+    match admit(alloc, input) {
+        Ok(checked) => Ok(Answer {
+            outcome: Outcome::Done,
+            text: certificate_bytes(alloc, &checked)?,
+        }),
+        Err(End::Refused(refusal)) => Ok(Answer {
+            outcome: Outcome::Refused,
+            text: refusal_line(alloc, refusal)?,
+        }),
+        Err(End::OutOfMemory) => Err(AllocError),
+    }
+}
+
+fn certificate_bytes(alloc: Global, checked: &Checked) -> Result<Vec<u8>, AllocError>
+    ensures { IfOk result (λ bytes. IsPlaced (Ok checked.now) bytes.items) }
+{
+    write_cert(alloc, &lone_cert(alloc, checked)?)
+}

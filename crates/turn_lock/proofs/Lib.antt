@@ -1,0 +1,15 @@
+pub mod Pigeonhole
+pub mod Seats
+pub mod Numbers
+pub mod Lines
+pub mod Logs
+pub mod Slots
+pub mod Turns
+pub mod Allowed
+pub mod Deals
+pub mod Meets
+pub mod Gathers
+pub mod Closes
+pub mod Permitted
+pub mod Ended
+pub mod Fresh

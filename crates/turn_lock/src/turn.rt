@@ -1,0 +1,129 @@
+ghost use Rattle.std.specs.Prelude.{◌≡◌, ℕ, Some, None, List, [], ◌∷◌, ◌++◌};
+ghost use Rattle.std.specs.Bool.{OnTrue, OnFalse};
+ghost use Rattle.turn_lock.specs.Passes.{Turned};
+ghost use Rattle.turn_lock.specs.Views.{IsAtRest, raised};
+ghost use Rattle.turn_lock.specs.Tables.{Took, Begun, Ending};
+ghost use Rattle.turn_lock.specs.declared.view.Stage.TheVariants.{Waiting};
+
+use crate::kept::{Change, Kept};
+use crate::lock::TurnLock;
+use crate::pass::Pass;
+use crate::plays::{Draw, Look, Raise};
+use crate::view::View;
+use atomic_table::Seat;
+use std::hint::spin_loop;
+use std::sync::Wait;
+use std::thread::yield_now;
+
+/// How often a waiting pass looks at the word that is served before it yields its processor.
+const LOOKS: u32 = 64;
+
+impl<V: Kept> TurnLock<V> {
+    /// Draws a ticket, waits until it is served, makes the change, and serves the next ticket.
+    pub fn turn<C: Change<V>, R: Wait + Sync>(
+        &self,
+        rt: &R,
+        pass: &mut Pass<V>,
+        change: C,
+    ) -> C::Answer
+        requires own { pass.old.lock ≡ self.now.lock }
+        requires fits { C.fits change pass.old.width }
+        ensures { Turned V.journal V.width C.does change pass.old pass.new result }
+    {
+        let mut value = self.begin(rt, &mut pass.seat);
+        let answer = change.apply(pass.number, &mut value);
+        self.put_back(&mut pass.seat, value);
+        self.serve_next(&mut pass.seat);
+        answer
+    }
+
+    // Draws a ticket, waits until it is served, and takes the value out.
+    fn begin<R: Wait>(&self, rt: &R, seat: &mut Seat<Option<V>, View<V::Note>>) -> V
+        requires own { seat.old.table_id ≡ self.now.lock }
+        requires rests { IsAtRest seat.old.me.0 }
+        requires free { seat.old.me.1 ≡ [] }
+        ensures own { seat.new.table_id ≡ seat.old.table_id }
+        ensures begun { Begun V.journal V.turns V.width seat.old.me.0 result seat.new.me }
+    {
+        let ticket = self.table.shared.fetch_add::<Draw>(seat, 0, 1);
+        self.wait(rt, seat, ticket);
+        self.take_out(rt, seat, ticket)
+    }
+
+    // Serves the next ticket. The slot is at home again.
+    fn serve_next(&self, seat: &mut Seat<Option<V>, View<V::Note>>)
+        requires own { seat.old.table_id ≡ self.now.lock }
+        requires turn { (value : V) × Ending V.journal V.turns V.width seat.old.me value }
+        ensures own { seat.new.table_id ≡ seat.old.table_id }
+        ensures ended { (value : V) (added : List (ℕ × V.Note)) → seat.old.me.1 ≡ (0, Some value) ∷ [] → V.journal value ≡ seat.old.me.0.seen ++ added → seat.new.me ≡ (raised seat.old.me.0 (V.journal value) added, []) }
+    {
+        self.table.shared.fetch_add::<Raise>(seat, 1, 1);
+    }
+
+    // Waits until the ticket is served. The slot is then the seat's.
+    fn wait<R: Wait>(&self, rt: &R, seat: &mut Seat<Option<V>, View<V::Note>>, ticket: u64)
+        requires own { seat.old.table_id ≡ self.now.lock }
+        requires waits { seat.old.me.0.stage ≡ Waiting ticket }
+        requires free { seat.old.me.1 ≡ [] }
+        ensures own { seat.new.table_id ≡ seat.old.table_id }
+        ensures took { Took V.journal V.turns V.width seat.old.me.0 ticket [] seat.new.me }
+    {
+        for _ in rt.forever() {
+            if self.look(seat, ticket) {
+                return;
+            }
+            yield_now();
+        }
+        unreachable!()
+    }
+
+    // Looks a few times whether the ticket is served.
+    fn look(&self, seat: &mut Seat<Option<V>, View<V::Note>>, ticket: u64) -> bool
+        requires own { seat.old.table_id ≡ self.now.lock }
+        requires waits { seat.old.me.0.stage ≡ Waiting ticket }
+        requires free { seat.old.me.1 ≡ [] }
+        ensures own { seat.new.table_id ≡ seat.old.table_id }
+        ensures took { OnTrue result (Took V.journal V.turns V.width seat.old.me.0 ticket [] seat.new.me) }
+        ensures same { OnFalse result (seat.new.me ≡ seat.old.me) }
+    {
+        for _ in 0..LOOKS {
+            if self.table.shared.load::<Look>(seat, 1) == ticket {
+                return true;
+            }
+            spin_loop();
+        }
+        false
+    }
+
+    // Takes the value out of the slot. A value of another turn, or none, would be put back, and the slot tried again.
+    fn take_out<R: Wait>(&self, rt: &R, seat: &mut Seat<Option<V>, View<V::Note>>, ticket: u64) -> V
+        requires own { seat.old.table_id ≡ self.now.lock }
+        requires due { (value : V) × (seat.old.me.1 ≡ (0, Some value) ∷ []) × (V.turns value ≡ ticket) }
+        ensures own { seat.new.table_id ≡ seat.old.table_id }
+        ensures view { seat.new.me.0 ≡ seat.old.me.0 }
+        ensures taken { seat.old.me.1 ≡ (0, Some result) ∷ [] }
+        ensures empty { seat.new.me.1 ≡ (0, None) ∷ [] }
+    {
+        for _ in rt.forever() {
+            if let Some(value) = self.table.shared.exchange(seat, 0, None) {
+                if value.turns() == ticket {
+                    return value;
+                }
+                self.put_back(seat, value);
+            }
+            yield_now();
+        }
+        unreachable!()
+    }
+
+    fn put_back(&self, seat: &mut Seat<Option<V>, View<V::Note>>, value: V)
+        requires own { seat.old.table_id ≡ self.now.lock }
+        requires empty { seat.old.me.1 ≡ (0, None) ∷ [] }
+        ensures own { seat.new.table_id ≡ seat.old.table_id }
+        ensures view { seat.new.me.0 ≡ seat.old.me.0 }
+        ensures put { seat.new.me.1 ≡ (0, Some value) ∷ [] }
+    {
+        let before = self.table.shared.exchange(seat, 0, Some(value));
+        let None = before else { unreachable!() };
+    }
+}
