@@ -3,26 +3,26 @@
 
 Usage: measure.py COMMAND FILE [FILE ..]    (run it at the repository's top, after ./shared_prover has built the program)
 
-Each file is given ten times on standard input; the best time counts, less that of an empty input, which is the price of a
-process. Memory is the greatest resident size, as GNU time tells it.
+Each file is given ten times on standard input; the least processor time counts (user and system), less that of an empty
+input, which is the price of a process. Memory is the greatest resident size, as GNU time tells it.
 """
 import os
 import subprocess
 import sys
-import time
 
 PROGRAM = "crates/shared_prover_cli/out/shared_prover_cli"
 
 
+def processor_time(command, path):
+    with open(path, "rb") as source:
+        process = subprocess.Popen([PROGRAM, command], stdin=source, stdout=subprocess.DEVNULL)
+        _, status, used = os.wait4(process.pid, 0)
+        process.returncode = os.waitstatus_to_exitcode(status)
+    return used.ru_utime + used.ru_stime
+
+
 def best_time(command, path):
-    best = None
-    for _ in range(10):
-        with open(path, "rb") as source:
-            start = time.perf_counter()
-            subprocess.run([PROGRAM, command], stdin=source, stdout=subprocess.DEVNULL, check=False)
-            spent = time.perf_counter() - start
-        best = spent if best is None else min(best, spent)
-    return best
+    return min(processor_time(command, path) for _ in range(10))
 
 
 def peak_memory(command, path):
