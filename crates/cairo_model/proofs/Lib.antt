@@ -2,7 +2,13 @@ pub mod Chains
 pub mod FieldFaults
 pub mod Inversion
 pub mod Rules
+pub mod NumberLists
 pub mod RunLaws
 pub mod Searching
 pub mod CellLemmas
 pub mod Stretches
+pub mod Groups
+pub mod Firsts
+pub mod Lists
+pub mod CellCount
+pub mod Appending

@@ -4,7 +4,8 @@ use Rattle.std.proofs.lemmas.List.{ext_get_or}
 use Rattle.cairo_model.specs.Values.{Datum, number}
 use Rattle.cairo_model.specs.Machine.{Arithmetic, Registers, next, Step, RunFrom, RunsTo, last_of}
 use Rattle.cairo_model.specs.Pies.{MemoryCell, PieRecord, segment_size}
-use Rattle.cairo_model.specs.Acceptance.{HoldsNumbers, IsolatedRun, AcceptedWith}
+use Rattle.cairo_model.specs.Acceptance.{HoldsNumbers, IsolatedRun, AcceptedWith, FactRecord, IsFactOf, builtin_mask}
+use Rattle.builtin_hash.specs.Programs.{program_hash_of}
 use Rattle.cairo_model.specs.declared.fault.StepFault.{StepFault}
 
 ok_is : {A E : Type 0} (x y : A) → ◌≡◌ {A = Result A E} (Ok x) (Ok y) → x ≡ y
@@ -78,5 +79,16 @@ one_content cells segment size xs ys holds other =
     let inside : i < size = omega (arith, holds.count) in
     number_is (get_or xs i 0) (get_or ys i 0) (sym (holds.each i inside) ∙ other.each i inside))
 
-pub one_acceptance : (pie : PieRecord) (xs ys : List ℕ) (us vs : List (Registers Datum)) → AcceptedWith pie xs us → AcceptedWith pie ys vs → (xs ≡ ys) × (us ≡ vs)
-one_acceptance pie xs ys us vs accepted other = (one_content pie.cells 2 (segment_size pie 2) xs ys accepted.has_outputs other.has_outputs, one_isolated_run pie us vs accepted.isolated other.isolated)
+abbrev fact_with : List ℕ → List ℕ → FactRecord
+fact_with program outputs = record { program = program; outputs = outputs }
+
+-- a PIE has one fact
+pub one_fact : (pie : PieRecord) (f g : FactRecord) → IsFactOf pie f → IsFactOf pie g → f ≡ g
+one_fact pie f g is other =
+    let code : is.code ≡ other.code = one_content pie.cells 0 (segment_size pie 0) is.code other.code is.has_code other.has_code in
+    let program : f.program ≡ g.program = is.is_program ∙ ap (λ (c : List ℕ). program_hash_of pie.main builtin_mask c) code ∙ sym other.is_program in
+    let outputs : f.outputs ≡ g.outputs = one_content pie.cells 2 (segment_size pie 2) f.outputs g.outputs is.has_outputs other.has_outputs in
+    ap (λ (p : List ℕ). fact_with p f.outputs) program ∙ ap (fact_with g.program) outputs
+
+pub one_acceptance : (pie : PieRecord) (f g : FactRecord) (us vs : List (Registers Datum)) → AcceptedWith pie f us → AcceptedWith pie g vs → (f ≡ g) × (us ≡ vs)
+one_acceptance pie f g us vs accepted other = (one_fact pie f g accepted.shows other.shows, one_isolated_run pie us vs accepted.isolated other.isolated)

@@ -1,9 +1,9 @@
 -- When the machine accepts a certificate: its states are one run over its own cells, which begins and ends as the calling
 -- convention asks, and whose spans hold what the builtins ask (docs/CERTIFICATE.md).
-use Rattle.std.specs.Prelude.{ℕ, ◌≡◌, ◌+◌, ◌-◌, ◌*◌, ◌%◌, ◌<◌, List, length, take, drop, slice_index, All, Option, Some}
+use Rattle.std.specs.Prelude.{ℕ, ◌≡◌, ◌+◌, ◌-◌, ◌<◌, List, length, slice_index, All, Option, Some}
 use Rattle.goldi_field.specs.Numbers.{difference_of}
 use Rattle.builtin_range.specs.Ranges.{IsRangeCell}
-use Rattle.builtin_hash.specs.Instances.{IsInstance}
+use Rattle.cairo_model.specs.BuiltinCells.{AreInstances}
 use Rattle.cairo_model.specs.Machine.{Registers, field_arithmetic, RunsTo}
 use Rattle.cairo_model.specs.FieldMemories.{FieldCell, cell_at}
 use Rattle.cairo_model.specs.Certificates.{CertRecord, SpanRecord}
@@ -16,11 +16,6 @@ cell_below cells address distance = cell_at cells (difference_of address distanc
 pub record SpanHolds (cells : List FieldCell) (span : SpanRecord) (numbers : List ℕ) : Type 0 where
   pub count : length numbers ≡ span.stop - span.start
   pub each : (i : ℕ) → i < span.stop - span.start → cell_at cells (span.start + i) ≡ Some (slice_index numbers i)
-
--- the numbers are whole hash instances, one after the other
-pub record AreInstances (numbers : List ℕ) : Type 0 where
-  pub whole : length numbers % 20 ≡ 0
-  pub each : (i : ℕ) → 20 * i < length numbers → IsInstance (take 20 (drop (20 * i) numbers))
 
 pub record MachineAccepts (cert : CertRecord) : Type 0 where
   pub first : Registers ℕ

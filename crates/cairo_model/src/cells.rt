@@ -33,7 +33,8 @@ impl Cells {
 
     /// The cells in the order of their addresses. Takes no memory.
     pub fn as_slice(&self) -> &[(Felt, Felt)]
-        ensures { map field_cell result.now ≡ self.now }
+        ensures cells { map field_cell result.now ≡ self.now }
+        ensures rise { AddressesRise self.now }
     {
         self.list.as_slice()
     }

@@ -1,17 +1,21 @@
-ghost use Rattle.std.specs.Prelude.{◌≡◌, map};
+ghost use Rattle.std.specs.Prelude.{◌≡◌, map, IfOk};
 ghost use Rattle.cairo_model.specs.Acceptance.{AcceptedWith};
+ghost use Rattle.cairo_model.specs.Shapes.{shape_of};
 ghost use Rattle.cairo_model.specs.Views.{registers};
 
-use crate::outputs::Outputs;
+use crate::fact::Fact;
 use crate::pie::Pie;
+use crate::pie_copy::{copied, size_in_all};
+use crate::shape::Shape;
 use crate::state::State;
+use std::alloc::{AllocError, Global};
 use std::marker::Model;
 
-/// A PIE that is accepted alone, with its outputs and the states of its isolated run.
+/// A PIE that is accepted alone, with its fact and the states of its isolated run.
 #[derive(Debug, Drop)]
 pub struct Checked {
     pie: Pie,
-    outputs: Outputs,
+    fact: Fact,
     states: Vec<State>,
 }
 
@@ -22,24 +26,20 @@ impl Model for Checked {
 
     ghost Value = { CheckedRecord };
 
-    ghost view = { λ c. record { pie = c.pie; outputs = c.outputs; states = map registers c.states.items } };
+    ghost view = { λ c. record { pie = c.pie; fact = c.fact; states = map registers c.states.items } };
 
-    ghost invariant = { λ c. AcceptedWith c.pie c.outputs (map registers c.states.items) };
+    ghost invariant = { λ c. AcceptedWith c.pie c.fact (map registers c.states.items) };
 }
 
 impl Checked {
     /// Takes no memory.
-    pub fn of(pie: Pie, outputs: Outputs, states: Vec<State>) -> Checked
-        requires { AcceptedWith pie outputs (map registers states.items) }
+    pub fn of(pie: Pie, fact: Fact, states: Vec<State>) -> Checked
+        requires { AcceptedWith pie fact (map registers states.items) }
         ensures pie { result.pie ≡ pie }
-        ensures outputs { result.outputs ≡ outputs }
+        ensures fact { result.fact ≡ fact }
         ensures states { result.states ≡ map registers states.items }
     {
-        Checked {
-            pie,
-            outputs,
-            states,
-        }
+        Checked { pie, fact, states }
     }
 
     pub fn pie(&self) -> &Pie
@@ -48,17 +48,36 @@ impl Checked {
         &self.pie
     }
 
-    pub fn outputs(&self) -> &Outputs
-        ensures { result.now ≡ self.now.outputs }
+    pub fn fact(&self) -> &Fact
+        ensures { result.now ≡ self.now.fact }
     {
-        &self.outputs
+        &self.fact
     }
 
     /// The states of the isolated run, one more than its steps.
     pub fn states(&self) -> &[State]
         ensures states { map registers result.now ≡ self.now.states }
-        ensures accepted { AcceptedWith self.now.pie self.now.outputs self.now.states }
+        ensures accepted { AcceptedWith self.now.pie self.now.fact self.now.states }
     {
         self.states.as_slice()
+    }
+
+    pub fn shape(&self) -> Shape
+        ensures { result ≡ shape_of self.now.pie }
+    {
+        Shape {
+            steps: self.pie.steps,
+            size: size_in_all(&self.pie),
+        }
+    }
+
+    pub fn try_copy(&self, alloc: Global) -> Result<Checked, AllocError>
+        ensures { IfOk result (λ copy. copy ≡ self.now) }
+    {
+        Ok(Checked {
+            pie: copied(alloc, &self.pie)?,
+            fact: self.fact.try_copy(alloc)?,
+            states: self.states.as_slice().to_vec(alloc)?,
+        })
     }
 }

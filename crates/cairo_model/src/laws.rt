@@ -1,4 +1,4 @@
-ghost use Rattle.cairo_model.specs.Acceptance.{AcceptedWith};
+ghost use Rattle.cairo_model.specs.Acceptance.{AcceptedWith, FactRecord};
 ghost use Rattle.cairo_model.specs.Pies.{PieRecord};
 ghost use Rattle.cairo_model.specs.Values.{Datum};
 ghost use Rattle.std.specs.Prelude.{ℕ, ◌≡◌, List, Option};
@@ -20,7 +20,7 @@ pub fn field_faults()
     ensures { (m : ℕ → Option ℕ) (s : Registers ℕ) → NeverInField m s }
 {}
 
-/// A PIE is accepted alone with one list of outputs and one list of states at most.
+/// A PIE is accepted alone with one fact and one list of states at most.
 pub fn one_acceptance()
-    ensures { (pie : PieRecord) (xs ys : List ℕ) (us vs : List (Registers Datum)) → AcceptedWith pie xs us → AcceptedWith pie ys vs → (xs ≡ ys) × (us ≡ vs) }
+    ensures { (pie : PieRecord) (f g : FactRecord) (us vs : List (Registers Datum)) → AcceptedWith pie f us → AcceptedWith pie g vs → (f ≡ g) × (us ≡ vs) }
 {}

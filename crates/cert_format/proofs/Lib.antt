@@ -6,4 +6,4 @@ pub mod PartLaws
 pub mod OrderLaws
 pub mod DraftLaws
 pub mod CertLaws
-pub mod Appending
+pub mod TypeFacts

@@ -3,6 +3,7 @@
 
 mod draft;
 mod fields;
+mod kept;
 mod laws;
 mod lists;
 mod order;
@@ -13,6 +14,7 @@ mod refusal;
 mod tests;
 mod writing;
 
+pub use kept::is_certificate;
 pub use laws::{one_certificate, reads_back};
 pub use reading::read_cert;
 pub use refusal::CertRefusal;

@@ -4,16 +4,20 @@ ghost use Rattle.cairo_model.specs.Certificates.{MarkRecord};
 ghost use Rattle.cairo_model.specs.CertificateViews.{kind_of, span_of};
 ghost use Rattle.cairo_model.specs.FieldMemories.{field_cell};
 ghost use Rattle.cairo_model.specs.Views.{field_registers};
-ghost use Rattle.cert_format.specs.Spelling.{cell_bytes, counted_bytes, kind_byte, magic, mark_bytes, span_bytes, spelling, state_bytes};
+ghost use Rattle.cert_format.specs.Spelling.{cell_bytes, counted_bytes, kind_byte, magic, mark_bytes, span_bytes, spelling, state_bytes, CertBytes};
 
+use crate::kept::is_certificate;
 use cairo_model::{Cert, FieldState, Kind, Span, TaskMark};
 use goldi_field::Felt;
 use std::alloc::{AllocError, Global};
 
 /// The one spelling of a certificate (docs/CERTIFICATE.md).
 pub fn write_cert(alloc: Global, cert: &Cert) -> Result<Vec<u8>, AllocError>
-    ensures { IfOk result (λ bytes. bytes.items ≡ spelling cert.now) }
+    ensures spelled { IfOk result (λ bytes. bytes.items ≡ spelling cert.now) }
+    // What is written is a certificate's, so that reading gives it back.
+    ensures bytes { IfOk result (λ bytes. CertBytes bytes.items cert.now) }
 {
+    is_certificate(cert);
     let mut out = head(alloc, cert.kind)?;
     put_span(&mut out, &cert.output)?;
     put_span(&mut out, &cert.range)?;

@@ -1,10 +1,4 @@
-pub mod AnswerLaws
-pub mod KeyLemmas
-pub mod ReadingSizes
-pub mod ReadingLoop
-pub mod ReadingFields
-pub mod ReadingParts
-pub mod ReadingMetadata
-pub mod ReadingCells
-pub mod ReadingLaws
-pub mod Refusals
+pub mod Stages
+pub mod FullSegments
+pub mod Causes
+pub mod Verdicts

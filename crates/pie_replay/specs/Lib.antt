@@ -1,4 +1,1 @@
-pub mod FirstAnswers
-pub mod Reading
-pub mod ReadingViews
 pub mod Replaying

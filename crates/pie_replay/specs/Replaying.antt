@@ -1,12 +1,22 @@
--- Runs that fail on the way.
-use Rattle.std.specs.Prelude.{◌≡◌, ◌+◌, ℕ, List, length, Option}
-use Rattle.cairo_model.specs.Machine.{Arithmetic, Registers, StepFaultOf, RunsTo}
-use Rattle.cairo_model.specs.declared.fault.StepFault.{StepFault}
+-- What a replay has found so far.
+use Rattle.std.specs.Prelude.{ℕ, ◌≡◌, ◌+◌, List, length}
+use Rattle.cairo_model.specs.Acceptance.{start_of}
+use Rattle.cairo_model.specs.FirstFailing.{NoneBelow}
+use Rattle.cairo_model.specs.Machine.{Registers, RunsTo, value_arithmetic}
+use Rattle.cairo_model.specs.Pies.{PieRecord, memory_of}
+use Rattle.cairo_model.specs.ReplayRefusals.{IsReplayCause, replay_number}
+use Rattle.cairo_model.specs.Values.{Datum}
+use Rattle.seg_memory.specs.Memory.{MemoryRecord, memory_in}
 
--- a run of so many steps begins in s, and at its last state a step has this fault
-pub record FailsAfter {V : Type 0} (A : Arithmetic V) (m : V → Option V) (s : Registers V) (steps : ℕ) (fault : StepFault) : Type 0 where
-  pub states : List (Registers V)
-  pub last : Registers V
-  pub runs : RunsTo A m s states last
-  pub counts : length states ≡ steps + 1
-  pub fails : StepFaultOf A m last fault
+-- the memory has the cells of the PIE
+abbrev pub IsMemoryOf : MemoryRecord → PieRecord → Type 0
+IsMemoryOf memory pie = memory_in memory ≡ memory_of pie.cells
+
+-- no cause with a number below this one applies
+abbrev pub Passes : PieRecord → ℕ → Type 0
+Passes pie n = NoneBelow replay_number (IsReplayCause pie) n
+
+-- the run of the PIE's steps over its own cells, to this state
+pub record IsClaimedRun (pie : PieRecord) (states : List (Registers Datum)) (last : Registers Datum) : Type 0 where
+  pub runs : RunsTo value_arithmetic (memory_of pie.cells) (start_of pie) states last
+  pub count : length states ≡ pie.steps + 1

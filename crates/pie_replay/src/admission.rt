@@ -1,41 +1,35 @@
-ghost use Rattle.std.specs.Prelude.{◌≡◌, ◌↔◌, ℕ, List, IfOk, IsTrue, Ok, Err, Result};
-ghost use Rattle.cairo_model.specs.Acceptance.{CheckedRecord};
-ghost use Rattle.pie_replay.specs.FirstAnswers.{HasNoBuiltins, IsAnswerTo};
+ghost use Rattle.std.specs.Prelude.{◌≡◌, ℕ, List, IfOk, Err};
+ghost use Rattle.cairo_model.specs.RefusalViews.{refused as refused_by};
+ghost use Rattle.cairo_model.specs.Verdicts.{IsVerdict, Verdict, admitted as admitted_with};
 
-use crate::first_refusal::FirstRefusal;
-use crate::reading::read;
-use crate::replay::replay;
-use crate::segments::size_of;
-use cairo_model::{Checked, End, Pie};
+use crate::acceptance::replay;
+use cairo_model::{Checked, End, Refusal};
+use pie_format::{one_first_cause, one_pie, pie_has_no_cause, read};
 use std::alloc::Global;
 
-/// The PIE of these bytes, where it is accepted alone, with its outputs and its isolated states (docs/PIE.md).
-pub fn admit(alloc: Global, bytes: &[u8]) -> Result<Checked, End<FirstRefusal>>
-    ensures admitted { IfOk result (λ checked. IsAnswerTo bytes.now (Ok checked)) }
-    ensures refused { (e : FirstRefusal) → result ≡ Err (End.Refused e) → IsAnswerTo bytes.now (Err e) }
+/// The verdict on the bytes of a file (docs/PIE.md): the PIE that they are, with its fact and its isolated states, where
+/// it is accepted alone, or else the first cause against the bytes or against the PIE.
+pub fn admit(alloc: Global, bytes: &[u8]) -> Result<Checked, End<Refusal>>
+    ensures admitted { IfOk result (λ checked. IsVerdict bytes.now (admitted_with checked)) }
+    ensures refused { (e : Refusal) → result ≡ Err (End.Refused e) → IsVerdict bytes.now (refused_by e) }
 {
     let pie = match read(alloc, bytes) {
         Ok(pie) => pie,
-        Err(End::Refused(_)) => return Err(End::Refused(FirstRefusal::File)),
+        Err(End::Refused(refusal)) => return Err(End::Refused(Refusal::Read(refusal))),
         Err(End::OutOfMemory) => return Err(End::OutOfMemory),
     };
-    if !has_no_builtins(&pie) {
-        return Err(End::Refused(FirstRefusal::NotBuilt));
-    }
     match replay(alloc, pie) {
         Ok(checked) => Ok(checked),
-        Err(End::Refused(_)) => Err(End::Refused(FirstRefusal::Alone)),
+        Err(End::Refused(refusal)) => Err(End::Refused(Refusal::Replay(refusal))),
         Err(End::OutOfMemory) => Err(End::OutOfMemory),
     }
 }
 
-fn has_no_builtins(pie: &Pie) -> bool
-    ensures { IsTrue result ↔ HasNoBuiltins pie.now }
+/// The bytes have one verdict at most.
+pub fn one_verdict()
+    ensures { (bytes : List ℕ) (v w : Verdict) → IsVerdict bytes v → IsVerdict bytes w → v ≡ w }
 {
-    size_of(pie, 3) == 0 && size_of(pie, 4) == 0
+    one_pie();
+    pie_has_no_cause();
+    one_first_cause();
 }
-
-/// The bytes have one answer at most.
-pub fn one_answer()
-    ensures { (bytes : List ℕ) (a b : Result CheckedRecord FirstRefusal) → IsAnswerTo bytes a → IsAnswerTo bytes b → a ≡ b }
-{}

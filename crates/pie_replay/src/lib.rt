@@ -1,20 +1,18 @@
-//! Reading and replaying position-independent executions.
+//! Replaying position-independent executions.
 #![tactic(auto)]
 
+mod acceptance;
 mod admission;
-mod cell_reading;
-mod file_parts;
-mod first_refusal;
-mod memory;
-mod metadata;
-mod metadata_rules;
-mod offsets;
-mod reading;
-mod replay;
+mod builtins;
+mod convention;
+mod ending;
 mod runs;
 mod segments;
 mod value_step;
 
-pub use admission::{admit, one_answer};
-pub use first_refusal::FirstRefusal;
-pub use reading::one_pie;
+pub use acceptance::replay;
+pub use admission::{admit, one_verdict};
+pub use value_step::step_value;
+
+#[cfg(test)]
+mod tests;

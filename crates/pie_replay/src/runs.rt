@@ -1,12 +1,12 @@
 ghost use Rattle.std.specs.Prelude.{◌≡◌, ◌+◌, ◌<◌, map, length, IfOk, Err};
 ghost use Rattle.cairo_model.specs.Machine.{value_arithmetic, RunsTo};
-ghost use Rattle.cairo_model.specs.Pies.{memory_of};
 ghost use Rattle.cairo_model.specs.Views.{registers};
-ghost use Rattle.pie_replay.specs.Replaying.{FailsAfter};
+ghost use Rattle.seg_memory.specs.Memory.{memory_in};
+ghost use Rattle.cairo_model.specs.ReplayRefusals.{FailsAfter};
 
-use crate::memory::CellMemory;
 use crate::value_step::step_value;
 use cairo_model::{End, State, StepFault};
+use seg_memory::SegMemory;
 use std::alloc::Global;
 
 /// The states of a run, and the last of them once more.
@@ -26,14 +26,14 @@ pub struct FailedStep {
 /// The run of so many steps over this memory.
 pub fn run_from(
     alloc: Global,
-    memory: &CellMemory<'_>,
+    memory: &SegMemory,
     start: State,
     steps: u32,
 ) -> Result<Run, End<FailedStep>>
-    ensures run { IfOk result (λ run. RunsTo value_arithmetic (memory_of memory.now) (registers start) (map registers run.states.items) (registers run.last)) }
+    ensures run { IfOk result (λ run. RunsTo value_arithmetic (memory_in memory.now) (registers start) (map registers run.states.items) (registers run.last)) }
     ensures count { IfOk result (λ run. length run.states.items ≡ steps + 1) }
     ensures early { (e : FailedStep) → result ≡ Err (End.Refused e) → e.number < steps }
-    ensures fails { (e : FailedStep) → result ≡ Err (End.Refused e) → FailsAfter value_arithmetic (memory_of memory.now) (registers start) e.number e.fault }
+    ensures fails { (e : FailedStep) → result ≡ Err (End.Refused e) → FailsAfter value_arithmetic (memory_in memory.now) (registers start) e.number e.fault }
 {
     let mut states = Vec::new(alloc);
     states.push(start)?;

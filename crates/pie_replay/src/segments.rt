@@ -1,16 +1,18 @@
-ghost use Rattle.std.specs.Prelude.{◌≡◌, ◌≢◌, ◌+◌, ◌-◌, ◌<◌, ◌≤◌, ◌^◌, ◌↔◌, ℕ, map, IsTrue, IfOk, IfSome, OnSome, IfNone, Some, Err, None};
-ghost use Rattle.cairo_model.specs.Acceptance.{HoldsNumbers, HasFrame, HasStopPointers, value_below};
-ghost use Rattle.cairo_model.specs.Pies.{value_at, segment_size, KeepsRules};
+ghost use Rattle.std.specs.Prelude.{◌≡◌, ◌<◌, ◌^◌, ◌↔◌, ℕ, map, IsTrue, IfOk, IfSome, IfNone, Some, Err, option_map};
+ghost use Rattle.cairo_model.specs.Acceptance.{HoldsNumbers};
+ghost use Rattle.cairo_model.specs.Pies.{memory_of, value_at, segment_size, KeepsRules};
+ghost use Rattle.cairo_model.specs.ReplayRefusals.{HasNumber, IsFirstGap};
 ghost use Rattle.cairo_model.specs.Values.{number, place};
 ghost use Rattle.cairo_model.specs.Views.{datum};
+ghost use Rattle.pie_replay.specs.Replaying.{IsMemoryOf};
 
-use crate::memory::CellMemory;
-use cairo_model::{End, Pie, Place, Value, felt_of, sub};
+use cairo_model::{End, Pie, Place, Value};
 use goldi_field::Felt;
+use seg_memory::SegMemory;
 use std::alloc::Global;
 
 /// The size of a segment in cells, 0 where there is none.
-pub fn size_of(pie: &Pie, segment: usize) -> u32
+pub(crate) fn size_of(pie: &Pie, segment: usize) -> u32
     ensures { result ≡ segment_size pie.now segment }
 {
     match pie.sizes.get(segment) {
@@ -19,102 +21,67 @@ pub fn size_of(pie: &Pie, segment: usize) -> u32
     }
 }
 
+/// The value that stands at a place.
+pub(crate) fn value_in(memory: &SegMemory, pie: &Pie, place: Place) -> Option<Value>
+    requires { IsMemoryOf memory.now pie.now }
+    ensures { option_map datum result ≡ value_at pie.now.cells place.segment place.offset }
+{
+    memory.get(place)
+}
+
+/// The value that stands at an address.
+pub(crate) fn value_by(memory: &SegMemory, pie: &Pie, address: Value) -> Option<Value>
+    requires { IsMemoryOf memory.now pie.now }
+    ensures { option_map datum result ≡ memory_of pie.now.cells (datum address) }
+{
+    memory.at(address)
+}
+
+/// The number that stands at a place, if one does.
+pub(crate) fn number_at(memory: &SegMemory, pie: &Pie, segment: u16, offset: u32) -> Option<Felt>
+    requires cells { IsMemoryOf memory.now pie.now }
+    requires near { offset < 2 ^ 31 }
+    ensures some { IfSome result (λ n. value_at pie.now.cells segment offset ≡ Some (number n.number)) }
+    ensures none { IfNone result (¬ HasNumber pie.now.cells segment offset) }
+{
+    match value_in(memory, pie, Place { segment, offset }) {
+        Some(Value::Number(n)) => Some(n),
+        _ => None,
+    }
+}
+
 /// The numbers of a segment, or the least offset below its size at which there is none.
-pub fn numbers_in(
+pub(crate) fn numbers_in(
     alloc: Global,
-    memory: &CellMemory<'_>,
+    memory: &SegMemory,
+    pie: &Pie,
     segment: u16,
-    size: u32,
 ) -> Result<Vec<Felt>, End<u32>>
-    requires { size < 2 ^ 31 }
-    ensures full { IfOk result (λ numbers. HoldsNumbers memory.now segment size (map (λ f. f.number) numbers.items)) }
-    ensures inside { (offset : ℕ) → result ≡ Err (End.Refused offset) → offset < size }
-    ensures gap { (offset : ℕ) → result ≡ Err (End.Refused offset) → (n : ℕ) → value_at memory.now segment offset ≢ Some (number n) }
+    requires rules { KeepsRules pie.now }
+    requires cells { IsMemoryOf memory.now pie.now }
+    ensures full { IfOk result (λ numbers. HoldsNumbers pie.now.cells segment (segment_size pie.now segment) (map (λ f. f.number) numbers.items)) }
+    ensures gap { (i : ℕ) → result ≡ Err (End.Refused i) → IsFirstGap pie.now segment i }
 {
     let mut numbers = Vec::new(alloc);
-    for offset in 0..size {
-        match memory.get(Place { segment, offset }) {
-            Some(Value::Number(n)) => numbers.push(n)?,
-            _ => return Err(End::Refused(offset)),
+    for offset in 0..size_of(pie, segment as usize) {
+        match number_at(memory, pie, segment, offset) {
+            Some(n) => numbers.push(n)?,
+            None => return Err(End::Refused(offset)),
         }
     }
     Ok(numbers)
 }
 
-/// The least index of a frame cell that is not as every run begins.
-pub fn bad_frame_cell(memory: &CellMemory<'_>) -> Option<u32>
-    ensures none { IfNone result (HasFrame memory.now) }
-    ensures some { IfSome result (λ i. (i < 5) × (value_at memory.now 1 i ≢ Some (place (2 + i) 0))) }
-{
-    for i in 0..5 {
-        if !stands(
-            memory,
-            Place {
-                segment: 1,
-                offset: i,
-            },
-            start_of_segment(2 + i as u16),
-        ) {
-            return Some(i);
-        }
-    }
-    None
-}
-
-/// The least index of a stop pointer that is not the end of its segment, under this allocation pointer.
-pub fn bad_stop_pointer(memory: &CellMemory<'_>, pie: &Pie, ap: Value) -> Option<u32>
-    requires rules { KeepsRules pie.now }
-    requires cells { memory.now ≡ pie.now.cells }
-    ensures none { IfNone result (HasStopPointers pie.now (datum ap)) }
-    ensures some { OnSome result (¬ HasStopPointers pie.now (datum ap)) }
-{
-    for i in 0..3 {
-        let size = size_of(pie, 2 + i as usize);
-        if !ends_at(
-            memory,
-            ap,
-            3 - i,
-            Place {
-                segment: 2 + i as u16,
-                offset: size,
-            },
-        ) {
-            return Some(i);
-        }
-    }
-    None
-}
-
-fn start_of_segment(segment: u16) -> Value
-    ensures { datum result ≡ place segment 0 }
-{
-    Value::At(Place { segment, offset: 0 })
-}
-
-fn stands(memory: &CellMemory<'_>, at: Place, value: Value) -> bool
-    ensures { IsTrue result ↔ (value_at memory.now at.segment at.offset ≡ Some (datum value)) }
-{
-    match memory.get(at) {
-        Some(found) => is_value(found, value),
-        None => false,
-    }
-}
-
-fn ends_at(memory: &CellMemory<'_>, ap: Value, distance: u32, end: Place) -> bool
-    ensures { IsTrue result ↔ (value_below memory.now (datum ap) distance ≡ Some (place end.segment end.offset)) }
-{
-    let Some(address) = sub(ap, Value::Number(felt_of(distance))) else {
-        return false;
-    };
-    match memory.at(address) {
-        Some(found) => is_value(found, Value::At(end)),
-        None => false,
-    }
-}
-
 /// Whether two values are the same number or the same place.
-pub fn is_value(a: Value, b: Value) -> bool
+pub(crate) fn is_value(a: Value, b: Value) -> bool
     ensures { IsTrue result ↔ (datum a ≡ datum b) }
 {
     a == b
+}
+
+pub(crate) fn place_value(segment: u16, offset: u32) -> Value
+    requires { offset < 2 ^ 31 }
+    ensures { datum result ≡ place segment offset }
+{
+    Value::At(Place { segment, offset })
 }

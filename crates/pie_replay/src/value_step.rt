@@ -1,21 +1,21 @@
 ghost use Rattle.std.specs.Prelude.{◌≡◌, Ok, Err, Result, MatchResult, ok_or, option_map};
-ghost use Rattle.cairo_model.specs.Pies.{memory_of};
 ghost use Rattle.cairo_model.specs.Machine.{Registers, value_arithmetic, next, found, spelled, after as after_of, register_in, op1_from, result_of, next_pc as next_pc_of, next_ap as next_ap_of, next_fp as next_fp_of, keeps_call as call_test, keeps_assert as assert_test};
 ghost use Rattle.cairo_model.specs.Views.{registers, datum};
 ghost use Rattle.cairo_word.specs.Instructions.{fields};
+ghost use Rattle.seg_memory.specs.Memory.{memory_in};
 
-use crate::memory::CellMemory;
-use crate::offsets::{offset_felt, size_felt};
 use cairo_model::{State, StepFault, Value, add, felt_of, is_zero, mul};
+use cairo_step::{offset_felt, size_felt};
 use cairo_word::{Instruction, Reg, decode};
 use goldi_field::Felt;
+use seg_memory::SegMemory;
 
-/// The state after one step over this memory, or the first fault.
+/// The state after one step of the machine over values (docs/MACHINE.md), or the first fault. Takes no memory.
 #[tactic(auto, unfolding(cairo_model::specs::Machine::next))]
-pub fn step_value(memory: &CellMemory<'_>, state: State) -> Result<State, StepFault>
+pub fn step_value(memory: &SegMemory, state: State) -> Result<State, StepFault>
     ensures { MatchResult result
-        (λ after. next value_arithmetic (memory_of memory.now) (registers state) ≡ Ok (registers after))
-        (λ fault. next value_arithmetic (memory_of memory.now) (registers state) ≡ Err fault) }
+        (λ after. next value_arithmetic (memory_in memory.now) (registers state) ≡ Ok (registers after))
+        (λ fault. next value_arithmetic (memory_in memory.now) (registers state) ≡ Err fault) }
 {
     let cell = memory.at(state.pc).ok_or(StepFault::Fetch)?;
     let instruction = spelled_by(cell).ok_or(StepFault::Word)?;
@@ -78,8 +78,8 @@ fn in_register(state: &State, reg: Reg) -> Value
     }
 }
 
-fn cell_from(memory: &CellMemory<'_>, from: Value, offset: i16) -> Option<Value>
-    ensures { option_map datum result ≡ found value_arithmetic (memory_of memory.now) (datum from) offset }
+fn cell_from(memory: &SegMemory, from: Value, offset: i16) -> Option<Value>
+    ensures { option_map datum result ≡ found value_arithmetic (memory_in memory.now) (datum from) offset }
 {
     memory.at(add(from, number(offset_felt(offset)))?)
 }

@@ -12,7 +12,7 @@ use Rattle.cairo_model.specs.Pies.{MemoryCell, PieRecord, IsCellOf, KeepsRules, 
 use Rattle.cairo_model.specs.Layouts.{Fits, base_of, relocated, relocated_cell}
 use Rattle.cairo_model.specs.FieldMemories.{addresses}
 use Rattle.cairo_model.proofs.Searching.{key_is, keys_rise, map_twice}
-use Rattle.relocator.proofs.Finding.{at_some}
+use Rattle.cairo_model.proofs.Lists.{at_some}
 use Rattle.relocator.proofs.PieMemories.{key_of, offset_below}
 
 one_spot : (s o t q : ℕ) (b : ℕ → ℕ) → (s ≢ t → b s + o ≢ b t + q) → b s + o ≡ b t + q → place_number s o ≡ place_number t q

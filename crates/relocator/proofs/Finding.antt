@@ -4,6 +4,7 @@ use Rattle.std.specs.List.{find, Contains}
 use Rattle.std.specs.List.Sorted.{IsStrictlyIncreasing}
 use Rattle.std.proofs.lemmas.List.Elements.{Contains-get_or}
 use Rattle.std.proofs.lemmas.List.{get_or-map, length-map}
+use Rattle.cairo_model.proofs.Lists.{at_some}
 use Rattle.cairo_model.proofs.Searching.{TellsKey, key_is, found_at}
 
 pub some_same : {X : Type 0} (x y : X) → Some x ≡ Some y → x ≡ y
@@ -39,11 +40,6 @@ found_in key p k xs tells rise x stands same =
 
 pub contains_map : {X Y : Type 0} (f : X → Y) (xs : List X) (x : X) → Contains xs x → Contains (map f xs) (f x)
 contains_map f xs x stands = (stands.0, omega (arith, stands.1, length-map xs f), get_or-map f xs stands.0 x (f x) stands.1 ∙ ap f stands.2)
-
--- an element of a list that has one
-pub at_some : {X R : Type 0} (xs : List X) (i : ℕ) → i < length xs → (X → R) → R
-at_some [] i lt go = absurd (omega arith)
-at_some (x ∷ xs) i lt go = go x
 
 pub record IsImageIn {X Y : Type 0} (f : X → Y) (xs : List X) (y : Y) : Type 0 where
   pub from : X

@@ -3,8 +3,8 @@ use Rattle.std.proofs.Common.{◌≡◌, ℕ, List, [], ◌∷◌, map, length, 
 use Rattle.cairo_model.specs.Values.{Datum, number, place, number_in}
 use Rattle.cairo_model.specs.Machine.{Registers, field_arithmetic, value_arithmetic, Run, RunFrom, RunsTo, last_of}
 use Rattle.cairo_model.proofs.Inversion.{moves, moved_so, field_exact, value_exact}
-use Rattle.relocator.specs.Relocations.{AreBases, AllValuesIn, HasRelocated, KeepsArithmetic, KeepsSteps}
-use Rattle.cairo_model.specs.Layouts.{relocated, relocated_state}
+use Rattle.relocator.specs.Relocations.{AllValuesIn, HasRelocated, KeepsArithmetic, KeepsSteps}
+use Rattle.cairo_model.specs.Layouts.{AreInBounds, relocated, relocated_state}
 use Rattle.cairo_model.specs.Pies.{IsValueIn}
 use Rattle.relocator.proofs.Carrying.{Carries, step_carried}
 
@@ -12,7 +12,7 @@ number_is : (bases : List ℕ) (a : Datum) (n : ℕ) → number_in a ≡ Some n 
 number_is bases (number a) n e = e
 number_is bases (place s o) n e = absurd (cc)
 
-module _ (arithmetic : (bases : List ℕ) → AreBases bases → KeepsArithmetic bases) (bases : List ℕ) (are : AreBases bases) where
+module _ (arithmetic : (bases : List ℕ) → AreInBounds bases → KeepsArithmetic bases) (bases : List ℕ) (are : AreInBounds bases) where
   carries : Carries value_arithmetic field_arithmetic (relocated bases) (IsValueIn (length bases))
   carries = record {
     sums = λ a b c e. ap (λ (x : ℕ). Some x) (sym ((arithmetic bases are).sums a b c e));

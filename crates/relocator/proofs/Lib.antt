@@ -1,6 +1,5 @@
 pub mod Apart
 pub mod Carrying
-pub mod CellCount
 pub mod Finding
 pub mod Homomorphism
 pub mod ListFacts

@@ -31,7 +31,7 @@ and_then_gives : {X Y R : Type 0} (o : Option X) (f : X → Option Y) (y : Y) �
 and_then_gives (Some x) f y eq go = go x refl eq
 and_then_gives None f y eq go = absurd (cc)
 
-module _ (bases : List ℕ) (checked : CheckedRecord) (fits : Fits bases checked.pie.sizes) (keeps : KeepsArithmetic bases) (accepted : AcceptedWith checked.pie checked.outputs checked.states)
+module _ (bases : List ℕ) (checked : CheckedRecord) (fits : Fits bases checked.pie.sizes) (keeps : KeepsArithmetic bases) (accepted : AcceptedWith checked.pie checked.fact checked.states)
     (cells : List FieldCell) (has : HasRelocated bases (memory_of checked.pie.cells) (cell_at cells)) where
   in_segments : (d : Datum) → IsValueIn (length checked.pie.sizes) d → IsValueIn (length bases) d
   in_segments d inside = subst (λ (n : ℕ). IsValueIn n d) (sym fits.one_each) inside
@@ -82,6 +82,3 @@ module _ (bases : List ℕ) (checked : CheckedRecord) (fits : Fits bases checked
         let near : i < segment_size checked.pie s = omega (arith, inside) in
         ap (cell_at cells) (sym (address_is s i lt (omega (arith, near)))) ∙ has (place s i) (number (get_or numbers i 0)) (holds.each i near);
   }
-
-  pub empty_span : (s : ℕ) → segment_size checked.pie s ≡ 0 → SpanHolds cells (stretch_of bases checked.pie.sizes s) []
-  empty_span s none = record { count = omega (arith, none); each = λ i inside. absurd (omega (arith, none, inside)) }

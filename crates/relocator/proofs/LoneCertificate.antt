@@ -1,23 +1,23 @@
 -- The machine accepts the certificate of a PIE alone.
-use Rattle.std.proofs.Common.{◌≡◌, ℕ, List, [], Some, refl, sym, ap, subst, ◌∙◌, arith, lit<}
+use Rattle.std.proofs.Common.{ℕ, List, Some, refl, sym, ap, subst, ◌∙◌, arith, lit<}
 use Rattle.cairo_model.specs.Values.{Datum}
 use Rattle.cairo_model.specs.Machine.{Registers, field_arithmetic, RunsTo}
 use Rattle.cairo_model.specs.Pies.{PieRecord, KeepsRules, segment_size}
 use Rattle.cairo_model.specs.FieldMemories.{cell_at}
-use Rattle.cairo_model.specs.Layouts.{Fits, lone_bases, relocated, relocated_state}
+use Rattle.cairo_model.specs.Layouts.{AreInBounds, Fits, lone_bases, relocated, relocated_state}
 use Rattle.cairo_model.specs.Acceptance.{CheckedRecord, AcceptedWith, start_of}
 use Rattle.cairo_model.specs.Certificates.{CertRecord, SpanRecord}
 use Rattle.cairo_model.specs.MachineAcceptance.{MachineAccepts, SpanHolds}
-use Rattle.relocator.specs.Relocations.{AreBases, KeepsArithmetic, RunsOverField}
+use Rattle.relocator.specs.Relocations.{KeepsArithmetic, RunsOverField}
 use Rattle.relocator.specs.LoneCertificates.{IsLoneCertificate}
 use Rattle.relocator.proofs.LoneAcceptance as lone
 
-module _ (arithmetic : (bases : List ℕ) → AreBases bases → KeepsArithmetic bases)
+module _ (arithmetic : (bases : List ℕ) → AreInBounds bases → KeepsArithmetic bases)
     (anywhere : (bases : List ℕ) (pie : PieRecord) → Fits bases pie.sizes → KeepsRules pie → RunsOverField bases pie.cells)
     (fit : (pie : PieRecord) → KeepsRules pie → Fits (lone_bases pie.sizes) pie.sizes) where
-  pub holds : (checked : CheckedRecord) (cert : CertRecord) → AcceptedWith checked.pie checked.outputs checked.states → IsLoneCertificate checked cert
-      → segment_size checked.pie 3 ≡ 0 → segment_size checked.pie 4 ≡ 0 → MachineAccepts cert
-  holds checked cert accepted is no_range no_hash =
+  pub holds : (checked : CheckedRecord) (cert : CertRecord) → AcceptedWith checked.pie checked.fact checked.states → IsLoneCertificate checked cert
+      → MachineAccepts cert
+  holds checked cert accepted is =
       let bases = lone_bases checked.pie.sizes in
       let fits = fit checked.pie accepted.rules in
       let keeps = arithmetic bases fits.in_bounds in
@@ -41,13 +41,15 @@ module _ (arithmetic : (bases : List ℕ) → AreBases bases → KeepsArithmetic
         output_stop = stops 0 (lit< tt) (lit< tt) ∙ ap Some (ends 2 (segment_size checked.pie 2) (lit< tt) (omega arith) ∙ ap (λ (s : SpanRecord). s.stop) (sym is.output));
         range_stop = stops 1 (lit< tt) (lit< tt) ∙ ap Some (ends 3 (segment_size checked.pie 3) (lit< tt) (omega arith) ∙ ap (λ (s : SpanRecord). s.stop) (sym is.range));
         hash_stop = stops 2 (lit< tt) (lit< tt) ∙ ap Some (ends 4 (segment_size checked.pie 4) (lit< tt) (omega arith) ∙ ap (λ (s : SpanRecord). s.stop) (sym is.hash));
-        outputs = checked.outputs;
-        has_outputs = subst (λ (s : SpanRecord). SpanHolds cert.cells s checked.outputs) (sym is.output)
-            (lone.span_carried bases checked fits keeps accepted cert.cells has 2 checked.outputs (lit< tt) accepted.has_outputs);
-        range_cells = [];
-        has_range_cells = subst (λ (s : SpanRecord). SpanHolds cert.cells s []) (sym is.range) (lone.empty_span bases checked fits keeps accepted cert.cells has 3 no_range);
-        are_range_cells = λ k d lt. absurd (omega arith);
-        instances = [];
-        has_instances = subst (λ (s : SpanRecord). SpanHolds cert.cells s []) (sym is.hash) (lone.empty_span bases checked fits keeps accepted cert.cells has 4 no_hash);
-        are_instances = record { whole = refl; each = λ i lt. absurd (omega arith) };
+        outputs = checked.fact.outputs;
+        has_outputs = subst (λ (s : SpanRecord). SpanHolds cert.cells s checked.fact.outputs) (sym is.output)
+            (lone.span_carried bases checked fits keeps accepted cert.cells has 2 checked.fact.outputs (lit< tt) accepted.shows.has_outputs);
+        range_cells = accepted.range.numbers;
+        has_range_cells = subst (λ (s : SpanRecord). SpanHolds cert.cells s accepted.range.numbers) (sym is.range)
+            (lone.span_carried bases checked fits keeps accepted cert.cells has 3 accepted.range.numbers (lit< tt) accepted.range.holds);
+        are_range_cells = accepted.range.are_range_cells;
+        instances = accepted.hash.numbers;
+        has_instances = subst (λ (s : SpanRecord). SpanHolds cert.cells s accepted.hash.numbers) (sym is.hash)
+            (lone.span_carried bases checked fits keeps accepted cert.cells has 4 accepted.hash.numbers (lit< tt) accepted.hash.holds);
+        are_instances = accepted.hash.are_instances;
       }

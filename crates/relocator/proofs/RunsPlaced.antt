@@ -8,11 +8,11 @@ use Rattle.relocator.specs.Placing.{ArePlaced, HasCells, RunsAsPlaced}
 use Rattle.relocator.specs.Relocations.{RunsOverField}
 use Rattle.relocator.specs.Staying.{StartsInside}
 
-pub starts_inside : (checked : CheckedRecord) → AcceptedWith checked.pie checked.outputs checked.states → StartsInside checked.pie checked.states
+pub starts_inside : (checked : CheckedRecord) → AcceptedWith checked.pie checked.fact checked.states → StartsInside checked.pie checked.states
 starts_inside checked accepted = record { rules = accepted.rules; main_in_code = accepted.main_in_code; last = accepted.isolated.last; runs = accepted.isolated.runs }
 
 pub runs_as_placed : ((bases : List ℕ) (pie : PieRecord) → Fits bases pie.sizes → KeepsRules pie → RunsOverField bases pie.cells)
-    → (bases : List ℕ) (checked : CheckedRecord) → Fits bases checked.pie.sizes → AcceptedWith checked.pie checked.outputs checked.states
+    → (bases : List ℕ) (checked : CheckedRecord) → Fits bases checked.pie.sizes → AcceptedWith checked.pie checked.fact checked.states
     → (out : List FieldCell) → ArePlaced bases checked.pie.cells out → (field : ℕ → Option ℕ) → HasCells out field → RunsAsPlaced bases checked field (map (relocated_state bases) checked.states)
 runs_as_placed law bases checked fits accepted out placed field has = record {
   last = accepted.isolated.last;

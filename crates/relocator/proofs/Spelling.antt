@@ -7,12 +7,12 @@ use Rattle.cairo_model.specs.Certificates.{CertRecord, MarkRecord, HasSpelling}
 use Rattle.cairo_model.specs.Machine.{Registers}
 use Rattle.cairo_model.specs.Layouts.{lone_bases, relocated_cell, relocated_state}
 use Rattle.relocator.specs.LoneCertificates.{IsLoneCertificate}
-use Rattle.relocator.proofs.CellCount.{few_cells}
+use Rattle.cairo_model.proofs.CellCount.{few_cells}
 
 no_marks : (marks : List MarkRecord) → marks ≡ [] → All (λ m. length m.bases < 2 ^ 32) marks
 no_marks marks none k d lt = absurd (omega (arith, ap (λ (ms : List MarkRecord). length ms) none, lt))
 
-pub has_spelling : (checked : CheckedRecord) (cert : CertRecord) → AcceptedWith checked.pie checked.outputs checked.states → IsLoneCertificate checked cert → HasSpelling cert
+pub has_spelling : (checked : CheckedRecord) (cert : CertRecord) → AcceptedWith checked.pie checked.fact checked.states → IsLoneCertificate checked cert → HasSpelling cert
 has_spelling checked cert accepted is =
     let bases = lone_bases checked.pie.sizes in
     let cells : length cert.cells ≡ length checked.pie.cells = length_permutation _ _ is.cells.same_cells ∙ length-map checked.pie.cells (relocated_cell bases) in

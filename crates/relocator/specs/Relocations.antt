@@ -1,5 +1,5 @@
 -- Relocation carries the machine over values to the machine over the field (docs/MACHINE.md).
-use Rattle.std.specs.Prelude.{ℕ, ◌≡◌, ◌^◌, ◌<◌, ◌≤◌, List, length, map, All, Option, Some}
+use Rattle.std.specs.Prelude.{ℕ, ◌≡◌, ◌<◌, List, length, map, Option, Some}
 use Rattle.goldi_field.specs.Numbers.{sum_of, difference_of, product_of}
 use Rattle.cairo_model.specs.Values.{Datum, number, place, Sum, Difference, Product, is_zero_datum}
 use Rattle.cairo_model.specs.Machine.{Registers, field_arithmetic, value_arithmetic, Step, Run, RunsTo}
@@ -10,10 +10,6 @@ use Rattle.cairo_model.specs.Layouts.{relocated, relocated_state}
 abbrev pub IsIn : ℕ → Datum → Type 0
 IsIn segments (number n) = Unit {0}
 IsIn segments (place s o) = s < segments
-
--- the bounds that a layout keeps
-abbrev pub AreBases : List ℕ → Type 0
-AreBases bases = All (λ b. (1 ≤ b) × (b < 2 ^ 32)) bases
 
 -- each value of a memory is a field number, or a place in one of so many segments
 abbrev pub AllValuesIn : ℕ → (Datum → Option Datum) → Type 0

@@ -1,24 +1,24 @@
 ghost use Rattle.std.specs.Prelude.{ℕ, List, length};
-ghost use Rattle.cairo_model.specs.Layouts.{Fits};
+ghost use Rattle.cairo_model.specs.Layouts.{AreInBounds, Fits};
 ghost use Rattle.cairo_model.specs.Pies.{PieRecord, KeepsRules};
-ghost use Rattle.relocator.specs.Relocations.{AreBases, KeepsArithmetic, KeepsSteps, KeepsRuns, RunsOverField};
+ghost use Rattle.relocator.specs.Relocations.{KeepsArithmetic, KeepsSteps, KeepsRuns, RunsOverField};
 ghost use Rattle.relocator.specs.Staying.{StatesStay};
 
 /// Where the arithmetic of values is defined, the field agrees with it.
 pub fn keeps_arithmetic()
-    ensures { (bases : List ℕ) → AreBases bases → KeepsArithmetic bases }
+    ensures { (bases : List ℕ) → AreInBounds bases → KeepsArithmetic bases }
 {}
 
 /// A step over values, relocated, is a step over each field memory that has the relocated cells.
 pub fn keeps_steps()
-    ensures { (bases : List ℕ) → AreBases bases → KeepsSteps bases }
+    ensures { (bases : List ℕ) → AreInBounds bases → KeepsSteps bases }
 {
     keeps_arithmetic();
 }
 
 /// So is a run over values.
 pub fn keeps_runs()
-    ensures { (bases : List ℕ) → AreBases bases → KeepsRuns bases }
+    ensures { (bases : List ℕ) → AreInBounds bases → KeepsRuns bases }
 {
     keeps_arithmetic();
 }

@@ -4,7 +4,6 @@ ghost use Rattle.cairo_model.specs.Certificates.{CertRecord};
 ghost use Rattle.cairo_model.specs.CertificateViews.{span_of};
 ghost use Rattle.cairo_model.specs.Layouts.{base_of};
 ghost use Rattle.cairo_model.specs.MachineAcceptance.{MachineAccepts};
-ghost use Rattle.cairo_model.specs.Pies.{segment_size};
 ghost use Rattle.relocator.specs.Lists.{numbers};
 ghost use Rattle.relocator.specs.LoneCertificates.{IsLoneCertificate, stretch_of};
 
@@ -18,7 +17,7 @@ use std::alloc::{AllocError, Global};
 /// The certificate of a PIE alone: its isolated run where the layout alone puts it (docs/CERTIFICATE.md).
 pub fn lone_cert(alloc: Global, checked: &Checked) -> Result<Cert, AllocError>
     ensures certificate { IfOk result (λ cert. IsLoneCertificate checked.now cert) }
-    ensures accepted { IfOk result (λ cert. segment_size checked.now.pie 3 ≡ 0 → segment_size checked.now.pie 4 ≡ 0 → MachineAccepts cert) }
+    ensures accepted { IfOk result (λ cert. MachineAccepts cert) }
 {
     lone_certificates_hold();
     // That the PIE is accepted, as `alone` asks, is what this ensures.
@@ -49,9 +48,9 @@ fn stretch(bases: &[Felt], sizes: &[u32], segment: usize) -> Span
     Span { start, stop }
 }
 
-/// The machine accepts the certificate of a PIE alone that has no cells of builtins.
+/// The machine accepts the certificate of each PIE alone.
 pub fn lone_certificates_hold()
-    ensures { (checked : CheckedRecord) (cert : CertRecord) → AcceptedWith checked.pie checked.outputs checked.states → IsLoneCertificate checked cert → segment_size checked.pie 3 ≡ 0 → segment_size checked.pie 4 ≡ 0 → MachineAccepts cert }
+    ensures { (checked : CheckedRecord) (cert : CertRecord) → AcceptedWith checked.pie checked.fact checked.states → IsLoneCertificate checked cert → MachineAccepts cert }
 {
     keeps_arithmetic();
     runs_anywhere();

@@ -1,17 +1,20 @@
 -- A certificate of a PIE alone has no fault exactly where the machine accepts it.
-use Rattle.std.proofs.Common.{◌≡◌, ℕ, zero, suc, ◌+◌, ◌-◌, ◌*◌, ◌<◌, ◌≤◌, ◌==◌, ◌&&◌, not, Bool, true, false, cond, nat_lt, List, [], ◌∷◌, length, slice_index, Option, Some, None, is_some, option_map, Result, Ok, Err, refl, sym, ap, subst, ◌∙◌, arith}
-use Rattle.std.specs.List.{position, position_or_len, prefix_len}
+use Rattle.std.proofs.Common.{◌≡◌, ℕ, ◌+◌, ◌-◌, ◌<◌, not, Bool, true, false, cond, nat_lt, List, [], ◌∷◌, length, Option, Some, None, option_map, Result, Ok, Err, refl, sym, ap, subst, ◌∙◌, arith}
+use Rattle.std.specs.List.{position_or_len, prefix_len}
 use Rattle.std.proofs.lemmas.Bool.Decides.{nat_tests}
-use Rattle.cairo_model.specs.Certificates.{CertRecord, SpanRecord}
-use Rattle.cairo_model.specs.FieldMemories.{FieldCell, cell_at}
+use Rattle.cairo_model.specs.Certificates.{CertRecord}
+use Rattle.cairo_model.specs.FieldMemories.{cell_at}
 use Rattle.cairo_model.specs.Machine.{Registers, field_arithmetic, next, RunFrom, RunsTo, last_of}
-use Rattle.cairo_model.specs.MachineAcceptance.{MachineAccepts, SpanHolds, AreInstances, cell_below}
+use Rattle.cairo_model.specs.MachineAcceptance.{MachineAccepts}
 use Rattle.cairo_model.specs.declared.fault.StepFault.{StepFault}
-use Rattle.shared_prover_cli.specs.RunFaults.{first_failing, holds, start_tests, end_tests, same_registers, cause_of, or_else, row_fault, first_absent, start_fault, end_fault, absent_in, states_fault, fault_of}
+use Rattle.shared_prover_cli.specs.RunFaults.{first_failing, holds, start_tests, end_tests, same_registers, cause_of, or_else, row_fault, start_fault, end_fault, spans_fault, states_fault, fault_of}
+use Rattle.shared_prover_cli.specs.SpanFaults.{absent_in, hash_fault, range_fault}
 use Rattle.shared_prover_cli.specs.declared.run_fault.RowCause.{RowCause}
 use Rattle.shared_prover_cli.specs.declared.run_fault.RowCause.TheVariants as causes
 use Rattle.shared_prover_cli.specs.declared.run_fault.RunFault.{RunFault}
 use Rattle.shared_prover_cli.specs.declared.run_fault.RunFault.TheVariants as faults
+use Rattle.shared_prover_cli.proofs.InstanceLaws.{instances_are, instances_there, no_hash_fault}
+use Rattle.shared_prover_cli.proofs.SpanLaws.{is_there, no_output_absent, no_range_fault, outputs_there, range_fits, range_there}
 
 -- ---- lists of tests
 
@@ -64,9 +67,6 @@ holds_is (Some m) n e =
 is_held : (o : Option ℕ) (n : ℕ) → o ≡ Some n → holds o n ≡ true
 is_held o n e = rw e (grind (arith, nat_tests))
 
-is_there : (o : Option ℕ) (n : ℕ) → o ≡ Some n → is_some o ≡ true
-is_there o n e = rw e refl
-
 -- ---- rows
 
 same_is : (u t : Registers ℕ) → same_registers u t ≡ true → u ≡ t
@@ -100,62 +100,23 @@ run_rows : (m : ℕ → Option ℕ) (n : ℕ) (s : Registers ℕ) (ts : List (Re
 run_rows m n s [] run = refl
 run_rows m n s (t ∷ ts) run = rw (run.0, same_self t) (run_rows m (n + 1) t ts run.1)
 
--- ---- outputs
-
-record Present (cells : List FieldCell) (start i n : ℕ) : Type 0 where
-  list : List ℕ
-  count : length list ≡ n
-  each : (k : ℕ) → k < n → cell_at cells (start + (i + k)) ≡ Some (slice_index list k)
-
-some_value : {R : Type 0} (o : Option ℕ) → is_some o ≡ true → ((v : ℕ) → o ≡ Some v → R) → R
-some_value None e go = absurd (cc)
-some_value (Some v) e go = go v refl
-
-cond_none : (b : Bool) (o : Option ℕ) (i : ℕ) → cond b o (Some i) ≡ None → (b ≡ true) × (o ≡ None)
-cond_none true o i e = (refl, e)
-cond_none false o i e = absurd (cc)
-
-present : (cells : List FieldCell) (start i n : ℕ) → first_absent cells start i n ≡ None → Present cells start i n
-present cells start i zero none = record { list = []; count = refl; each = λ k lt. absurd (omega arith) }
-present cells start i (suc n) none =
-    let both = cond_none (is_some (cell_at cells (start + i))) (first_absent cells start (i + 1) n) i none in
-    let rest = present cells start (i + 1) n both.1 in
-    some_value (cell_at cells (start + i)) both.0 (λ v is. record {
-      list = v ∷ rest.list;
-      count = ap suc rest.count;
-      each = λ k lt. at_each v is rest k lt;
-    })
-  where
-    at_each : (v : ℕ) → cell_at cells (start + i) ≡ Some v → (rest : Present cells start (i + 1) n) → (k : ℕ) → k < suc n → cell_at cells (start + (i + k)) ≡ Some (slice_index (v ∷ rest.list) k)
-    at_each v is rest zero lt = let same : start + (i + 0) ≡ start + i = omega arith in ap (cell_at cells) same ∙ is
-    at_each v is rest (suc k) lt = let same : start + (i + suc k) ≡ start + ((i + 1) + k) = omega arith in ap (cell_at cells) same ∙ rest.each k (omega arith)
-
-absent_none : (cells : List FieldCell) (start i n : ℕ) → ((k : ℕ) → k < n → is_some (cell_at cells (start + (i + k))) ≡ true) → first_absent cells start i n ≡ None
-absent_none cells start i zero there = refl
-absent_none cells start i (suc n) there =
-    let same : start + (i + 0) ≡ start + i = omega arith in
-    let here : is_some (cell_at cells (start + i)) ≡ true = ap (λ (a : ℕ). is_some (cell_at cells a)) (sym same) ∙ there 0 (omega arith) in
-    rw here (absent_none cells start (i + 1) n (λ k lt.
-    let moved : start + ((i + 1) + k) ≡ start + (i + suc k) = omega arith in
-    ap (λ (a : ℕ). is_some (cell_at cells a)) moved ∙ there (suc k) (omega arith)))
-
 -- ---- the whole
 
-no_numbers : (cells : List FieldCell) (span : SpanRecord) → span.stop ≡ span.start → SpanHolds cells span []
-no_numbers cells span same = record { count = omega arith; each = λ i lt. absurd (omega arith) }
-
-no_instances : AreInstances []
-no_instances = record { whole = refl; each = λ i lt. absurd (omega arith) }
-
-module _ (cert : CertRecord) (no_range : cert.range.stop ≡ cert.range.start) (no_hash : cert.hash.stop ≡ cert.hash.start) where
+module _ (cert : CertRecord) where
   accepted_states : (states : List (Registers ℕ)) → states_fault cert states ≡ None → absent_in cert ≡ None → cert.states ≡ states → MachineAccepts cert
   accepted_states [] none all_there same = absurd (cc)
   accepted_states (first ∷ rest) none all_there same =
-      first_none (start_fault cert first) (or_else (end_fault cert first (last_of first rest)) (row_fault (cell_at cert.cells) 0 first rest)) none (λ at_start after_start.
-      first_none (end_fault cert first (last_of first rest)) (row_fault (cell_at cert.cells) 0 first rest) after_start (λ at_end at_rows.
+      first_none (start_fault cert first) (or_else (end_fault cert first (last_of first rest)) (or_else (spans_fault cert) (row_fault (cell_at cert.cells) 0 first rest))) none (λ at_start after_start.
+      first_none (end_fault cert first (last_of first rest)) (or_else (spans_fault cert) (row_fault (cell_at cert.cells) 0 first rest)) after_start (λ at_end after_end.
+      first_none (spans_fault cert) (row_fault (cell_at cert.cells) 0 first rest) after_end (λ at_spans at_rows.
+      first_none (option_map faults.Range (range_fault cert)) (option_map faults.Hash (hash_fault cert)) at_spans (λ at_range at_hash.
+      let no_range = map_none faults.Range (range_fault cert) at_range in
+      let no_hash = map_none faults.Hash (hash_fault cert) at_hash in
       let starts = none_failing (start_tests cert first) (map_none (λ k. faults.Start (k + 1)) (first_failing (start_tests cert first)) at_start) in
       let ends = none_failing (end_tests cert first (last_of first rest)) (map_none (λ k. faults.End (k + 1)) (first_failing (end_tests cert first (last_of first rest))) at_end) in
-      let outputs = present cert.cells cert.output.start 0 (cert.output.stop - cert.output.start) all_there in
+      let outputs = outputs_there cert.cells cert.output.start (cert.output.stop - cert.output.start) all_there in
+      let range = range_there cert.cells cert.range.start (cert.range.stop - cert.range.start) no_range in
+      let hash = instances_there cert.cells cert.hash.start cert.hash.stop no_hash in
       record {
         first = first;
         last = last_of first rest;
@@ -170,14 +131,14 @@ module _ (cert : CertRecord) (no_range : cert.range.stop ≡ cert.range.start) (
         range_stop = holds_is _ _ ends.1.1.1.0;
         hash_stop = holds_is _ _ ends.1.1.1.1.0;
         outputs = outputs.list;
-        has_outputs = record { count = outputs.count; each = λ i lt. ap (λ (k : ℕ). cell_at cert.cells (cert.output.start + k)) (omega arith) ∙ outputs.each i lt };
-        range_cells = [];
-        has_range_cells = no_numbers cert.cells cert.range no_range;
-        are_range_cells = λ i d lt. absurd (omega arith);
-        instances = [];
-        has_instances = no_numbers cert.cells cert.hash no_hash;
-        are_instances = no_instances;
-      }))
+        has_outputs = record { count = outputs.count; each = outputs.each };
+        range_cells = range.list;
+        has_range_cells = record { count = range.count; each = range.each };
+        are_range_cells = range_fits cert.cells cert.range.start (cert.range.stop - cert.range.start) no_range range;
+        instances = hash.list;
+        has_instances = record { count = hash.count; each = hash.each };
+        are_instances = instances_are cert.cells cert.hash.start cert.hash.stop no_hash hash;
+      }))))
 
   pub accepted : fault_of cert ≡ None → MachineAccepts cert
   accepted none = first_none (states_fault cert cert.states) (option_map faults.Output (absent_in cert)) none (λ at_states at_outputs. accepted_states cert.states at_states (map_none faults.Output (absent_in cert) at_outputs) refl)
@@ -194,11 +155,12 @@ module _ (cert : CertRecord) (accepts : MachineAccepts cert) where
       (is_held _ _ accepts.returned, (is_held _ _ accepts.restored, (is_held _ _ accepts.output_stop, (is_held _ _ accepts.range_stop, (is_held _ _ accepts.hash_stop, tt))))) in
       let ends_here : first_failing (end_tests cert first (last_of first rest)) ≡ None =
       ap (λ (t : Registers ℕ). first_failing (end_tests cert first t)) is_last ∙ ap (λ (s : Registers ℕ). first_failing (end_tests cert s accepts.last)) is_first ∙ ends in
-      rw (starts, ends_here) (run_rows (cell_at cert.cells) 0 first rest run.1.0)
+      let no_range : range_fault cert ≡ None = no_range_fault cert.cells cert.range accepts.range_cells accepts.has_range_cells accepts.are_range_cells in
+      let no_hash : hash_fault cert ≡ None = no_hash_fault cert.cells cert.hash accepts.instances accepts.has_instances accepts.are_instances in
+      rw (starts, ends_here, no_range, no_hash) (run_rows (cell_at cert.cells) 0 first rest run.1.0)
 
   all_there : absent_in cert ≡ None
-  all_there = absent_none cert.cells cert.output.start 0 (cert.output.stop - cert.output.start)
-      (λ k lt. is_there _ _ (ap (λ (j : ℕ). cell_at cert.cells (cert.output.start + j)) (omega arith) ∙ accepts.has_outputs.each k lt))
+  all_there = no_output_absent cert.cells cert.output accepts.outputs accepts.has_outputs
 
   pub clean : fault_of cert ≡ None
   clean = rw (clean_states cert.states accepts.runs, all_there) refl

@@ -1,13 +1,12 @@
 -- What the program answers to an input.
-use Rattle.std.specs.Prelude.{◌≡◌, ℕ, List, Result, Ok, Err}
-use Rattle.cairo_model.specs.Acceptance.{CheckedRecord}
+use Rattle.std.specs.Prelude.{◌≡◌, ℕ, List}
 use Rattle.cairo_model.specs.Certificates.{CertRecord}
+use Rattle.cairo_model.specs.Verdicts.{IsVerdict, Verdict, admitted, no_file, not_alone}
 use Rattle.cert_format.specs.Spelling.{spelling}
-use Rattle.pie_replay.specs.FirstAnswers.{IsAnswerTo}
-use Rattle.pie_replay.specs.declared.first_refusal.FirstRefusal.{FirstRefusal}
 use Rattle.relocator.specs.LoneCertificates.{IsLoneCertificate}
 use Rattle.shared_prover_cli.specs.CheckAnswers.{CheckAnswer, IsCheckOf}
-use Rattle.shared_prover_cli.specs.Texts.{answer_status, answer_text, refusal_text, check_status, check_text}
+use Rattle.shared_prover_cli.specs.CheckTexts.{check_status, check_text}
+use Rattle.shared_prover_cli.specs.Texts.{verdict_status, verdict_text}
 use Rattle.shared_prover_cli.specs.declared.answer.Outcome.{Outcome}
 use Rattle.shared_prover_cli.specs.declared.answer.Outcome.TheVariants.{Done, Refused}
 use Rattle.shared_prover_cli.specs.declared.command.Command.{Command}
@@ -18,24 +17,25 @@ abbrev pub outcome_number : Outcome → ℕ
 outcome_number Done = 0
 outcome_number Refused = 1
 
--- `replay`: the line of the one answer to the file that the input is
+-- `replay`: the line of the one verdict on the file that the input is
 pub record ReplayAnswer (input : List ℕ) (status : ℕ) (text : List ℕ) : Type 0 where
-  pub answer : Result CheckedRecord FirstRefusal
-  pub is_answer : IsAnswerTo input answer
-  pub has_status : status ≡ answer_status answer
-  pub has_text : text ≡ answer_text answer
+  pub verdict : Verdict
+  pub is_verdict : IsVerdict input verdict
+  pub has_status : status ≡ verdict_status verdict
+  pub has_text : text ≡ verdict_text verdict
 
 -- the bytes of the certificate of an admitted PIE alone, or the line of the refusal
-abbrev pub IsPlaced : Result CheckedRecord FirstRefusal → List ℕ → Type 0
-IsPlaced (Ok found) text = (cert : CertRecord) × (IsLoneCertificate found cert × (text ≡ spelling cert))
-IsPlaced (Err refusal) text = text ≡ refusal_text refusal
+abbrev pub IsPlaced : Verdict → List ℕ → Type 0
+IsPlaced (admitted found) text = (cert : CertRecord) × (IsLoneCertificate found cert × (text ≡ spelling cert))
+IsPlaced (no_file refusal) text = text ≡ verdict_text (no_file refusal)
+IsPlaced (not_alone cause) text = text ≡ verdict_text (not_alone cause)
 
 -- `place`: the certificate of the PIE that the input is a file of
 pub record PlaceAnswer (input : List ℕ) (status : ℕ) (text : List ℕ) : Type 0 where
-  pub answer : Result CheckedRecord FirstRefusal
-  pub is_answer : IsAnswerTo input answer
-  pub has_status : status ≡ answer_status answer
-  pub has_text : IsPlaced answer text
+  pub verdict : Verdict
+  pub is_verdict : IsVerdict input verdict
+  pub has_status : status ≡ verdict_status verdict
+  pub has_text : IsPlaced verdict text
 
 -- `check`: the line of the one answer to the certificate that the input is
 pub record CheckLine (input : List ℕ) (status : ℕ) (text : List ℕ) : Type 0 where

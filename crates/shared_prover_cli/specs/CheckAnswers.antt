@@ -11,19 +11,19 @@ use Rattle.shared_prover_cli.specs.declared.run_fault.RunFault.{RunFault}
 pub data CheckAnswer : Type 0 where
   -- the machine accepts it, with so many steps and these outputs
   accepted : ℕ → List ℕ → CheckAnswer
-  -- it is of a batch, or has cells of builtins, whose checks aren't built yet
+  -- it is of a batch, whose checks aren't built yet
   not_built : CheckAnswer
   -- no certificate has these bytes
   no_certificate : CertRefusal → CheckAnswer
   -- the machine doesn't accept it
   faulty : RunFault → CheckAnswer
 
--- of a PIE alone, with no cells of builtins
-abbrev pub IsPlain : CertRecord → Type 0
-IsPlain cert = (cert.kind ≡ alone) × ((cert.range.stop ≡ cert.range.start) × (cert.hash.stop ≡ cert.hash.start))
+-- of one PIE alone
+abbrev pub IsOfOnePie : CertRecord → Type 0
+IsOfOnePie cert = cert.kind ≡ alone
 
 abbrev pub IsCheckOf : List ℕ → CheckAnswer → Type 0
 IsCheckOf bytes (no_certificate refusal) = (reading bytes ≡ Err refusal) × ((cert : CertRecord) → ¬ CertBytes bytes cert)
-IsCheckOf bytes not_built = (cert : CertRecord) × (CertBytes bytes cert × (¬ IsPlain cert))
-IsCheckOf bytes (faulty fault) = (cert : CertRecord) × (CertBytes bytes cert × (IsPlain cert × ((fault_of cert ≡ Some fault) × (¬ MachineAccepts cert))))
-IsCheckOf bytes (accepted steps outputs) = (cert : CertRecord) × (CertBytes bytes cert × (IsPlain cert × (MachineAccepts cert × ((length cert.states ≡ steps + 1) × SpanHolds cert.cells cert.output outputs))))
+IsCheckOf bytes not_built = (cert : CertRecord) × (CertBytes bytes cert × (¬ IsOfOnePie cert))
+IsCheckOf bytes (faulty fault) = (cert : CertRecord) × (CertBytes bytes cert × (IsOfOnePie cert × ((fault_of cert ≡ Some fault) × (¬ MachineAccepts cert))))
+IsCheckOf bytes (accepted steps outputs) = (cert : CertRecord) × (CertBytes bytes cert × (IsOfOnePie cert × (MachineAccepts cert × ((length cert.states ≡ steps + 1) × SpanHolds cert.cells cert.output outputs))))

@@ -1,10 +1,13 @@
 pub mod Answers
 pub mod CheckAnswers
+pub mod CheckTexts
 pub mod Commands
 pub mod Exits
 pub mod Faults
 pub mod MemoryStreams
+pub mod Numerals
 pub mod RunFaults
 pub mod Runs
+pub mod SpanFaults
 pub mod Texts
 pub mod WholeStreams

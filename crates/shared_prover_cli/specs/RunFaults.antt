@@ -1,11 +1,11 @@
--- What is wrong with the certificate of a PIE alone whose range and hash spans are empty: the first fault in order
--- (docs/CERTIFICATE.md).
-use Rattle.std.specs.Prelude.{ℕ, zero, suc, ◌+◌, ◌-◌, ◌==◌, ◌&&◌, not, Bool, false, List, [], ◌∷◌, position, Option, Some, None, is_some, option_map, Result, Ok, Err, if◌then◌else◌}
+-- What is wrong with the certificate of a PIE alone: the first fault in order (docs/CERTIFICATE.md).
+use Rattle.std.specs.Prelude.{ℕ, ◌+◌, ◌==◌, ◌&&◌, not, Bool, false, List, [], ◌∷◌, position, Option, Some, None, is_some, option_map, Result, Ok, Err, if◌then◌else◌}
 use Rattle.cairo_model.specs.Certificates.{CertRecord}
-use Rattle.cairo_model.specs.FieldMemories.{FieldCell, cell_at}
+use Rattle.cairo_model.specs.FieldMemories.{cell_at}
 use Rattle.cairo_model.specs.Machine.{Registers, field_arithmetic, next, last_of}
 use Rattle.cairo_model.specs.MachineAcceptance.{cell_below}
 use Rattle.cairo_model.specs.declared.fault.StepFault.{StepFault}
+use Rattle.shared_prover_cli.specs.SpanFaults.{absent_in, hash_fault, range_fault}
 use Rattle.shared_prover_cli.specs.declared.run_fault.RowCause.{RowCause}
 use Rattle.shared_prover_cli.specs.declared.run_fault.RowCause.TheVariants as causes
 use Rattle.shared_prover_cli.specs.declared.run_fault.RunFault.{RunFault}
@@ -59,28 +59,24 @@ abbrev pub row_fault : (ℕ → Option ℕ) → ℕ → Registers ℕ → List (
 row_fault m n s [] = None
 row_fault m n s (t ∷ ts) = or_else (option_map (faults.Row n) (cause_of (next field_arithmetic m s) t)) (row_fault m (n + 1) t ts)
 
--- the first of so many indices from i on at which there is no cell above the start
-abbrev pub first_absent : List FieldCell → ℕ → ℕ → ℕ → Option ℕ
-first_absent cells start i zero = None
-first_absent cells start i (suc n) = if is_some (cell_at cells (start + i)) then first_absent cells start (i + 1) n else Some i
-
 abbrev pub start_fault : CertRecord → Registers ℕ → Option RunFault
 start_fault cert first = option_map (λ k. faults.Start (k + 1)) (first_failing (start_tests cert first))
 
 abbrev pub end_fault : CertRecord → Registers ℕ → Registers ℕ → Option RunFault
 end_fault cert first last = option_map (λ k. faults.End (k + 1)) (first_failing (end_tests cert first last))
 
--- the first index of the output span at which there is no cell
-abbrev pub absent_in : CertRecord → Option ℕ
-absent_in cert = first_absent cert.cells cert.output.start 0 (cert.output.stop - cert.output.start)
+-- the faults of the spans that the builtins ask for, in their order
+abbrev pub spans_fault : CertRecord → Option RunFault
+spans_fault cert = or_else (option_map faults.Range (range_fault cert)) (option_map faults.Hash (hash_fault cert))
 
--- the faults of the states, in their order
+-- the faults of the states, in their order; those of the spans come before the rows
 abbrev pub states_fault : CertRecord → List (Registers ℕ) → Option RunFault
 states_fault cert [] = Some (faults.Start 0)
 states_fault cert (first ∷ rest) =
     or_else (start_fault cert first)
     (or_else (end_fault cert first (last_of first rest))
-    (row_fault (cell_at cert.cells) 0 first rest))
+    (or_else (spans_fault cert)
+    (row_fault (cell_at cert.cells) 0 first rest)))
 
 -- the faults of a certificate: those of its states, and then those of its outputs
 abbrev pub fault_of : CertRecord → Option RunFault

@@ -1,87 +1,60 @@
--- The texts that the program writes.
-use Rattle.std.specs.Prelude.{ℕ, List, [], ◌∷◌, ◌++◌, codes, decimal, Result, Ok, Err}
-use Rattle.cairo_model.specs.declared.fault.StepFault.{StepFault}
-use Rattle.cairo_model.specs.declared.fault.StepFault.TheVariants.{Fetch, Word, Dst, Op0, Op1, Res, Jump, Call, Assert, Frame}
-use Rattle.cert_format.specs.declared.refusal.CertRefusal.{CertRefusal}
-use Rattle.cert_format.specs.declared.refusal.CertRefusal.TheVariants as refusals
-use Rattle.std.specs.List.{flat_map}
-use Rattle.cairo_model.specs.Acceptance.{CheckedRecord}
-use Rattle.pie_replay.specs.declared.first_refusal.FirstRefusal.{FirstRefusal}
-use Rattle.pie_replay.specs.declared.first_refusal.FirstRefusal.TheVariants.{File, NotBuilt, Alone}
-use Rattle.shared_prover_cli.specs.CheckAnswers.{CheckAnswer, accepted, not_built, no_certificate, faulty}
-use Rattle.shared_prover_cli.specs.declared.run_fault.RowCause.{RowCause}
-use Rattle.shared_prover_cli.specs.declared.run_fault.RowCause.TheVariants as causes
-use Rattle.shared_prover_cli.specs.declared.run_fault.RunFault.{RunFault}
-use Rattle.shared_prover_cli.specs.declared.run_fault.RunFault.TheVariants as faults
+-- The lines that answer the file of a PIE.
+use Rattle.std.specs.Prelude.{ℕ, List, [], ◌∷◌, ◌++◌, codes}
+use Rattle.builtin_hash.specs.Programs.{hash_text}
+use Rattle.cairo_model.specs.Acceptance.{FactRecord}
+use Rattle.cairo_model.specs.ReadRefusals.{read_number}
+use Rattle.cairo_model.specs.ReplayRefusals.{ReplayCause, replay_number, program_cell, bad_main, bad_frame, output_cell, range_cell, hash_instance, step, not_home, wrong_frame, stop_pointer}
+use Rattle.cairo_model.specs.Verdicts.{Verdict, no_file, not_alone, admitted}
+use Rattle.cairo_model.specs.declared.read_refusal.ReadRefusal.{ReadRefusal}
+use Rattle.cairo_model.specs.declared.read_refusal.ReadRefusal.TheVariants.{TooLong, BadMagic, Truncated, BadMetadata, BadVersion, BadSizes, TooManySegments, TooLarge, TooManySteps, BadCell, TrailingBytes}
+use Rattle.shared_prover_cli.specs.Numerals.{numbers_text, step_fault_number, value_text}
 
--- each number in decimal, after one space
-abbrev pub numbers_text : List ℕ → List ℕ
-numbers_text numbers = flat_map (λ n. 32 ∷ decimal n) numbers
+-- the hash of the program, and its outputs
+abbrev pub admitted_text : FactRecord → List ℕ
+admitted_text fact = codes "admitted program " ++ hash_text fact.program ++ codes " outputs" ++ numbers_text fact.outputs ++ 10 ∷ []
 
-abbrev pub admitted_text : List ℕ → List ℕ
-admitted_text outputs = codes "admitted outputs" ++ numbers_text outputs ++ 10 ∷ []
+-- ---- refusals: the number, and the fields in order
 
--- the line of a refusal
-abbrev pub refusal_text : FirstRefusal → List ℕ
-refusal_text File = codes "refused file\n"
-refusal_text NotBuilt = codes "not built\n"
-refusal_text Alone = codes "refused alone\n"
+abbrev pub read_fields : ReadRefusal → List ℕ
+read_fields (TooLong n) = n ∷ []
+read_fields BadMagic = []
+read_fields (Truncated n) = n ∷ []
+read_fields BadMetadata = []
+read_fields (BadVersion v) = v ∷ []
+read_fields BadSizes = []
+read_fields (TooManySegments k) = k ∷ []
+read_fields (TooLarge n) = n ∷ []
+read_fields (TooManySteps k) = k ∷ []
+read_fields (BadCell i) = i ∷ []
+read_fields (TrailingBytes k) = k ∷ []
 
--- the line that answers a file
-abbrev pub answer_text : Result CheckedRecord FirstRefusal → List ℕ
-answer_text (Ok found) = admitted_text found.outputs
-answer_text (Err refusal) = refusal_text refusal
+abbrev pub read_text : ReadRefusal → List ℕ
+read_text refusal = numbers_text (read_number refusal ∷ read_fields refusal)
 
--- the exit status beside it: 0 where the PIE is admitted, else 1
-abbrev pub answer_status : Result CheckedRecord FirstRefusal → ℕ
-answer_status (Ok found) = 0
-answer_status (Err refusal) = 1
+abbrev pub fields_text : ReplayCause → List ℕ
+fields_text (program_cell i) = numbers_text (i ∷ [])
+fields_text (bad_main main) = numbers_text (main ∷ [])
+fields_text (bad_frame i) = numbers_text (i ∷ [])
+fields_text (output_cell i) = numbers_text (i ∷ [])
+fields_text (range_cell i) = numbers_text (i ∷ [])
+fields_text (hash_instance i) = numbers_text (i ∷ [])
+fields_text (step n fault) = numbers_text (n ∷ step_fault_number fault ∷ [])
+fields_text (not_home pc) = value_text pc
+fields_text (wrong_frame fp) = value_text fp
+fields_text (stop_pointer i) = numbers_text (i ∷ [])
 
--- ---- the answers to a certificate
+abbrev pub replay_text : ReplayCause → List ℕ
+replay_text cause = numbers_text (replay_number cause ∷ []) ++ fields_text cause
 
-abbrev pub accepted_text : ℕ → List ℕ → List ℕ
-accepted_text steps outputs = codes "accepted alone" ++ numbers_text (steps ∷ []) ++ codes " outputs" ++ numbers_text outputs ++ 10 ∷ []
+-- ---- the line that answers a file, and the exit status beside it
 
--- the number of a refusal and its field
-abbrev pub certificate_numbers : CertRefusal → List ℕ
-certificate_numbers refusals.BadMagic = 1 ∷ []
-certificate_numbers (refusals.Truncated length) = 2 ∷ length ∷ []
-certificate_numbers (refusals.BadNumber place) = 3 ∷ place ∷ []
-certificate_numbers (refusals.Order place) = 4 ∷ place ∷ []
-certificate_numbers (refusals.Trailing count) = 5 ∷ count ∷ []
+abbrev pub verdict_text : Verdict → List ℕ
+verdict_text (no_file refusal) = codes "refused" ++ read_text refusal ++ 10 ∷ []
+verdict_text (not_alone cause) = codes "refused" ++ replay_text cause ++ 10 ∷ []
+verdict_text (admitted found) = admitted_text found.fact
 
-abbrev pub step_fault_number : StepFault → ℕ
-step_fault_number Fetch = 1
-step_fault_number Word = 2
-step_fault_number Dst = 3
-step_fault_number Op0 = 4
-step_fault_number Op1 = 5
-step_fault_number Res = 6
-step_fault_number Jump = 7
-step_fault_number Call = 8
-step_fault_number Assert = 9
-step_fault_number Frame = 10
-
-abbrev pub cause_number : RowCause → ℕ
-cause_number (causes.Fault fault) = step_fault_number fault
-cause_number causes.Next = 11
-
--- the number of a fault and its fields, an absent value written as a dash
-abbrev pub fault_text : RunFault → List ℕ
-fault_text (faults.Start k) = numbers_text (2 ∷ k ∷ [])
-fault_text (faults.End k) = numbers_text (3 ∷ k ∷ [])
-fault_text (faults.Row n cause) = numbers_text (6 ∷ n ∷ cause_number cause ∷ [])
-fault_text (faults.Output i) = numbers_text (7 ∷ i ∷ []) ++ codes " - -"
-
-abbrev pub check_text : CheckAnswer → List ℕ
-check_text (accepted steps outputs) = accepted_text steps outputs
-check_text not_built = codes "not built\n"
-check_text (no_certificate refusal) = codes "refused certificate" ++ numbers_text (certificate_numbers refusal) ++ 10 ∷ []
-check_text (faulty fault) = codes "refused run" ++ fault_text fault ++ 10 ∷ []
-
--- 0 where the machine accepts the certificate, else 1
-abbrev pub check_status : CheckAnswer → ℕ
-check_status (accepted steps outputs) = 0
-check_status not_built = 1
-check_status (no_certificate refusal) = 1
-check_status (faulty fault) = 1
+-- 0 where the PIE is admitted, else 1
+abbrev pub verdict_status : Verdict → ℕ
+verdict_status (no_file refusal) = 1
+verdict_status (not_alone cause) = 1
+verdict_status (admitted found) = 0

@@ -2,12 +2,12 @@ ghost use Rattle.std.specs.Prelude.{◌≡◌, ◌↔◌, ◌-◌, IfOk, IsTrue,
 ghost use Rattle.cairo_model.specs.Certificates.{CertRecord};
 ghost use Rattle.cairo_model.specs.MachineAcceptance.{MachineAccepts};
 ghost use Rattle.shared_prover_cli.specs.Answers.{CheckLine, outcome_number};
-ghost use Rattle.shared_prover_cli.specs.CheckAnswers.{IsPlain};
+ghost use Rattle.shared_prover_cli.specs.CheckAnswers.{IsOfOnePie};
 ghost use Rattle.shared_prover_cli.specs.RunFaults.{fault_of};
 
 use crate::answer::{Answer, Outcome};
+use crate::check_texts::{accepted_line, certificate_line, fault_line, not_built_line};
 use crate::checking::checked_outputs;
-use crate::texts::{accepted_line, certificate_line, fault_line, not_built_line};
 use cairo_model::{Cert, End, Kind};
 use cert_format::read_cert;
 use std::alloc::{AllocError, Global};
@@ -21,7 +21,7 @@ pub fn check_answer(alloc: Global, input: &[u8]) -> Result<Answer, AllocError>
         Err(End::Refused(refusal)) => return Ok(refused(certificate_line(alloc, refusal)?)),
         Err(End::OutOfMemory) => return Err(AllocError),
     };
-    if !is_plain(&cert) {
+    if !is_of_one_pie(&cert) {
         return Ok(refused(not_built_line(alloc)?));
     }
     match checked_outputs(alloc, &cert) {
@@ -50,16 +50,13 @@ fn steps_of(cert: &Cert) -> u64
     (cert.states.len() as u64).saturating_sub(1)
 }
 
-// Whether a certificate is of a PIE alone, with no cells of builtins.
-fn is_plain(cert: &Cert) -> bool
-    ensures { IsTrue result ↔ IsPlain cert.now }
+fn is_of_one_pie(cert: &Cert) -> bool
+    ensures { IsTrue result ↔ IsOfOnePie cert.now }
 {
     matches!(cert.kind, Kind::Alone)
-        && cert.range.stop == cert.range.start
-        && cert.hash.stop == cert.hash.start
 }
 
-/// A certificate of a PIE alone without cells of builtins has no fault exactly where the machine accepts it.
+/// A certificate of a PIE alone has no fault exactly where the machine accepts it.
 pub fn faults_and_acceptance()
-    ensures { (cert : CertRecord) → IsPlain cert → ((fault_of cert ≡ None) ↔ MachineAccepts cert) }
+    ensures { (cert : CertRecord) → IsOfOnePie cert → ((fault_of cert ≡ None) ↔ MachineAccepts cert) }
 {}

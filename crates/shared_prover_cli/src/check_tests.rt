@@ -1,32 +1,42 @@
 use crate::asking::answer;
 use crate::vectors::{
-    ADDR, FIVE, FIVE_CERTIFICATE, RANGE_CERTIFICATE, RANGE_MAX, SILENT_CERTIFICATE,
+    ADDR, FIVE, FIVE_CERTIFICATE, HASH_CERTIFICATE, HASH0, RANGE_7, RANGE_CERTIFICATE,
+    SILENT_CERTIFICATE,
 };
 use hex::decode;
 use std::alloc::Global;
 use std::test::Fail;
 
-// The certificate of FIVE with another byte at this place.
-fn five_with(alloc: Global, at: usize, byte: u8) -> Result<Vec<u8>, Fail> {
-    let mut bytes = decode(alloc, FIVE_CERTIFICATE)?;
-    if let Some(place) = bytes.get_mut(at) {
-        *place = byte;
+// A certificate with other bytes at these places.
+fn changed(alloc: Global, digits: &str, changes: &[(usize, u8)]) -> Result<Vec<u8>, Fail> {
+    let mut bytes = decode(alloc, digits)?;
+    for &(at, byte) in changes {
+        if let Some(place) = bytes.get_mut(at) {
+            *place = byte;
+        }
     }
     Ok(bytes)
 }
 
 #[test]
 fn a_placed_run_is_its_certificate(rt: HostRuntime) -> Result<(), Fail> {
-    let found = answer(&rt, "place", decode(rt.alloc(), FIVE)?)?;
-    assert_eq!(rt; found.0, 0);
-    assert_eq!(rt;
-        found.1.as_slice(),
-        decode(rt.alloc(), FIVE_CERTIFICATE)?.as_slice()
-    );
-    let refused = answer(&rt, "place", decode(rt.alloc(), ADDR)?)?;
-    assert_eq!(rt; refused.1.as_slice(), b"refused alone\n".as_slice());
-    let not_built = answer(&rt, "place", decode(rt.alloc(), RANGE_MAX)?)?;
-    assert_eq!(rt; not_built.1.as_slice(), b"not built\n".as_slice());
+    for (digits, certificate) in [
+        (FIVE, FIVE_CERTIFICATE),
+        (RANGE_7, RANGE_CERTIFICATE),
+        (HASH0, HASH_CERTIFICATE),
+    ] {
+        let found = answer(&rt, "place", decode(rt.alloc(), digits)?)?;
+        assert_eq!(rt; found.0, 0);
+        assert_eq!(rt;
+            found.1.as_slice(),
+            decode(rt.alloc(), certificate)?.as_slice()
+        );
+    }
+    for (digits, line) in [(ADDR, "refused 26 0 9\n"), ("", "refused 3 0\n")] {
+        let refused = answer(&rt, "place", decode(rt.alloc(), digits)?)?;
+        assert_eq!(rt; refused.0, 1);
+        assert_eq!(rt; refused.1.as_slice(), line.as_bytes());
+    }
     Ok(())
 }
 
@@ -34,7 +44,8 @@ fn a_placed_run_is_its_certificate(rt: HostRuntime) -> Result<(), Fail> {
 fn certificates_have_their_answers(rt: HostRuntime) -> Result<(), Fail> {
     for (digits, status, text) in [
         (FIVE_CERTIFICATE, 0, "accepted alone 6 outputs 5\n"),
-        (RANGE_CERTIFICATE, 1, "not built\n"),
+        (RANGE_CERTIFICATE, 0, "accepted alone 6 outputs\n"),
+        (HASH_CERTIFICATE, 0, "accepted alone 4 outputs\n"),
         (SILENT_CERTIFICATE, 1, "refused run 7 0 - -\n"),
         ("", 1, "refused certificate 2 0\n"),
     ] {
@@ -59,7 +70,11 @@ fn the_first_fault_is_named(rt: HostRuntime) -> Result<(), Fail> {
         (452, 16, "refused run 6 2 11\n"),
         (74, 14, "refused run 6 0 2\n"),
     ] {
-        let found = answer(&rt, "check", five_with(rt.alloc(), at, byte)?)?;
+        let found = answer(
+            &rt,
+            "check",
+            changed(rt.alloc(), FIVE_CERTIFICATE, &[(at, byte)])?,
+        )?;
         assert_eq!(rt; found.0, 1, "{text}");
         assert_eq!(rt; found.1.as_slice(), text.as_bytes(), "{text}");
     }
@@ -75,5 +90,40 @@ fn the_first_fault_is_named(rt: HostRuntime) -> Result<(), Fail> {
         answer(&rt, "check", longer)?.1.as_slice(),
         b"refused certificate 5 1\n".as_slice()
     );
+    Ok(())
+}
+
+// The line that answers a certificate with other bytes at these places.
+fn line(rt: &HostRuntime, digits: &str, changes: &[(usize, u8)]) -> Result<Vec<u8>, Fail> {
+    let bytes = changed(rt.alloc(), digits, changes)?;
+    Ok(answer(rt, "check", bytes)?.1)
+}
+
+#[test]
+fn a_range_cell_is_below_two_to_the_32(rt: HostRuntime) -> Result<(), Fail> {
+    let over = line(&rt, RANGE_CERTIFICATE, &[(348, 1), (352, 0)])?;
+    assert_eq!(rt; over.as_slice(), b"refused run 4 0\n".as_slice());
+    Ok(())
+}
+
+// The last byte of the hash span's stop is at 56, and that of the cell with the stop pointer at 272.
+#[test]
+fn a_hash_span_has_whole_instances(rt: HostRuntime) -> Result<(), Fail> {
+    let wrong_word = line(&rt, HASH_CERTIFICATE, &[(480, 0)])?;
+    assert_eq!(rt; wrong_word.as_slice(), b"refused run 5 0\n".as_slice());
+    let cut = line(&rt, HASH_CERTIFICATE, &[(56, 37), (272, 37)])?;
+    assert_eq!(rt; cut.as_slice(), b"refused run 5 0\n".as_slice());
+    let one_more = line(&rt, HASH_CERTIFICATE, &[(56, 39), (272, 39)])?;
+    assert_eq!(rt; one_more.as_slice(), b"refused run 5 1\n".as_slice());
+    let absent = line(&rt, HASH_CERTIFICATE, &[(56, 58), (272, 58)])?;
+    assert_eq!(rt; absent.as_slice(), b"refused run 5 1\n".as_slice());
+    Ok(())
+}
+
+// The range span has one address, without a cell, and the instance a wrong word.
+#[test]
+fn the_range_span_comes_before_the_hash_span(rt: HostRuntime) -> Result<(), Fail> {
+    let both = line(&rt, HASH_CERTIFICATE, &[(40, 18), (256, 18), (480, 0)])?;
+    assert_eq!(rt; both.as_slice(), b"refused run 4 0\n".as_slice());
     Ok(())
 }

@@ -3,15 +3,17 @@ ghost use Rattle.cairo_model.specs.FieldMemories.{cell_at};
 ghost use Rattle.cairo_model.specs.Machine.{Registers, field_arithmetic, next, last_of};
 ghost use Rattle.cairo_model.specs.MachineAcceptance.{cell_below as below, SpanHolds};
 ghost use Rattle.cairo_model.specs.Views.{field_registers};
-ghost use Rattle.shared_prover_cli.specs.RunFaults.{cause_of as cause, absent_in, end_fault as fault_of_end, end_tests as tests_of_end, fault_of, first_failing as failing, holds as is_cell, row_fault, start_fault as fault_of_start, start_tests as tests_of_start, states_fault as fault_of_states};
+ghost use Rattle.shared_prover_cli.specs.RunFaults.{cause_of as cause, end_fault as fault_of_end, end_tests as tests_of_end, fault_of, first_failing as failing, holds as is_cell, row_fault, start_fault as fault_of_start, start_tests as tests_of_start, states_fault as fault_of_states};
+ghost use Rattle.shared_prover_cli.specs.SpanFaults.{absent_in};
 
 use crate::run_fault::{RowCause, RunFault};
+use crate::spans::spans_fault;
 use cairo_model::{Cells, Cert, End, FieldState, felt_below, felt_of};
 use cairo_step::step;
 use goldi_field::Felt;
 use std::alloc::Global;
 
-/// The outputs of a certificate of a PIE alone whose range and hash spans are empty, or its first fault.
+/// The outputs of a certificate of a PIE alone, or its first fault.
 pub fn checked_outputs(alloc: Global, cert: &Cert) -> Result<Vec<Felt>, End<RunFault>>
     ensures clean { IfOk result (λ outputs. fault_of cert.now ≡ None) }
     ensures outputs { IfOk result (λ outputs. SpanHolds cert.now.cells cert.now.output (map (λ f. f.number) outputs.items)) }
@@ -27,7 +29,7 @@ pub fn checked_outputs(alloc: Global, cert: &Cert) -> Result<Vec<Felt>, End<RunF
     }
 }
 
-// The first fault of the states.
+// The first fault of the states, or of the spans that the builtins ask for.
 fn states_fault(cert: &Cert) -> Option<RunFault>
     ensures { result ≡ fault_of_states cert.now cert.now.states }
 {
@@ -38,6 +40,9 @@ fn states_fault(cert: &Cert) -> Option<RunFault>
         return Some(fault);
     }
     if let Some(fault) = end_fault(cert, first, &last_state(first, rest)) {
+        return Some(fault);
+    }
+    if let Some(fault) = spans_fault(cert) {
         return Some(fault);
     }
     bad_row(&cert.cells, first, rest)

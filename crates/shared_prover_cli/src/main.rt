@@ -7,10 +7,12 @@ mod asking;
 mod check;
 #[cfg(test)]
 mod check_tests;
+mod check_texts;
 mod checking;
 mod command;
 mod limits;
 mod memory;
+mod numerals;
 mod place;
 #[cfg(test)]
 mod placing_tests;
@@ -20,6 +22,7 @@ mod replay;
 mod replay_tests;
 mod run;
 mod run_fault;
+mod spans;
 mod status;
 mod stream;
 mod sure;

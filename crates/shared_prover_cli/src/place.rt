@@ -1,6 +1,5 @@
-ghost use Rattle.std.specs.Prelude.{IfOk, Ok};
-ghost use Rattle.cert_format.specs.Spelling.{spelling};
-ghost use Rattle.relocator.specs.LoneCertificates.{IsLoneCertificate};
+ghost use Rattle.std.specs.Prelude.{IfOk};
+ghost use Rattle.cairo_model.specs.Verdicts.{admitted};
 ghost use Rattle.shared_prover_cli.specs.Answers.{IsPlaced, PlaceAnswer, outcome_number};
 
 use crate::answer::{Answer, Outcome};
@@ -29,7 +28,7 @@ pub fn place_answer(alloc: Global, input: &[u8]) -> Result<Answer, AllocError>
 }
 
 fn certificate_bytes(alloc: Global, checked: &Checked) -> Result<Vec<u8>, AllocError>
-    ensures { IfOk result (λ bytes. IsPlaced (Ok checked.now) bytes.items) }
+    ensures { IfOk result (λ bytes. IsPlaced (admitted checked.now) bytes.items) }
 {
     write_cert(alloc, &lone_cert(alloc, checked)?)
 }

@@ -14,7 +14,7 @@ pub fn replay_answer(alloc: Global, input: &[u8]) -> Result<Answer, AllocError>
     match admit(alloc, input) {
         Ok(checked) => Ok(Answer {
             outcome: Outcome::Done,
-            text: admitted_line(alloc, checked.outputs().as_slice())?,
+            text: admitted_line(alloc, checked.fact())?,
         }),
         Err(End::Refused(refusal)) => Ok(Answer {
             outcome: Outcome::Refused,

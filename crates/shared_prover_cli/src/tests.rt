@@ -3,7 +3,7 @@ use crate::real::{StdSink, StdSource};
 use crate::run::run_plain;
 use crate::status::Status;
 use crate::sure::{SureSink, SureSource};
-use crate::vectors::{BACK, EMPTY, FIVE};
+use crate::vectors::FIVE;
 use crate::whole::{InputFault, read_whole, write_whole};
 use hex::decode;
 use std::alloc::{AllocError, Global};
@@ -20,19 +20,15 @@ fn words_of(alloc: Global, texts: &[&str]) -> Result<Vec<String>, AllocError> {
 #[test]
 fn answers_whatever_the_pieces(rt: HostRuntime) -> Result<(), Fail> {
     let words = words_of(rt.alloc(), &["replay"])?;
-    for (digits, line) in [
-        (EMPTY, b"admitted outputs\n".as_slice()),
-        (FIVE, b"admitted outputs 5\n"),
-        (BACK, b"admitted outputs\n"),
-    ] {
-        for (gives, takes) in [(1, 1), (1, 3), (100, 2)] {
-            let input = decode(rt.alloc(), digits)?;
-            let mut source = MemSource::new(input, gives, Vec::new(rt.alloc()));
-            let mut sink = MemSink::new(rt.alloc(), 100, takes, Vec::new(rt.alloc()))?;
-            let status = run_plain(rt.alloc(), &rt, words.as_slice(), &mut source, &mut sink);
-            assert_eq!(rt; status, Status::Done);
-            assert_eq!(rt; sink.bytes(), line);
-        }
+    let line =
+        b"admitted program 644b2c86fee53a4ad40c21efa0e8524e34c75966cf12fcbfe5a3ae40d0a8bcbd outputs 5\n";
+    for (gives, takes) in [(1, 1), (1, 3), (100, 2)] {
+        let input = decode(rt.alloc(), FIVE)?;
+        let mut source = MemSource::new(input, gives, Vec::new(rt.alloc()));
+        let mut sink = MemSink::new(rt.alloc(), 100, takes, Vec::new(rt.alloc()))?;
+        let status = run_plain(rt.alloc(), &rt, words.as_slice(), &mut source, &mut sink);
+        assert_eq!(rt; status, Status::Done);
+        assert_eq!(rt; sink.bytes(), line.as_slice());
     }
     Ok(())
 }

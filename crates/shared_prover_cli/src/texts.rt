@@ -1,145 +1,87 @@
-ghost use Rattle.std.specs.Prelude.{◌≡◌, ◌++◌, [], ◌∷◌, OnOk, IfOk, map};
-ghost use Rattle.shared_prover_cli.specs.CheckAnswers.{faulty, no_certificate, not_built};
-ghost use Rattle.shared_prover_cli.specs.Texts.{accepted_text, admitted_text, cause_number, check_text, fault_text, numbers_text, refusal_text, step_fault_number};
+ghost use Rattle.std.specs.Prelude.{◌≡◌, ◌++◌, OnOk, IfOk};
+ghost use Rattle.cairo_model.specs.RefusalViews.{refused as refused_by};
+ghost use Rattle.cairo_model.specs.ReplayViews.{replay_cause};
+ghost use Rattle.shared_prover_cli.specs.Texts.{admitted_text, read_text, replay_text, verdict_text};
 
-use crate::run_fault::{RowCause, RunFault};
-use cairo_model::StepFault;
-use cert_format::CertRefusal;
-use goldi_field::Felt;
-use pie_replay::FirstRefusal;
+use crate::numerals::{number_of_fault, put_number, put_numbers, put_pair, put_value};
+use cairo_model::{Fact, ReadRefusal, Refusal, ReplayRefusal};
 use std::alloc::{AllocError, Global};
 
 /// The line of an admitted PIE.
-pub fn admitted_line(alloc: Global, outputs: &[Felt]) -> Result<Vec<u8>, AllocError>
-    ensures { IfOk result (λ text. text.items ≡ admitted_text (map (λ f. f.number) outputs.now)) }
+pub fn admitted_line(alloc: Global, fact: &Fact) -> Result<Vec<u8>, AllocError>
+    ensures { IfOk result (λ text. text.items ≡ admitted_text fact.now) }
 {
-    let mut text = b"admitted outputs".to_vec(alloc)?;
-    put_numbers(alloc, &mut text, outputs)?;
+    let mut text = b"admitted program ".to_vec(alloc)?;
+    text.extend_from_slice(&fact.program.digits())?;
+    text.extend_from_slice(b" outputs")?;
+    put_numbers(alloc, &mut text, fact.outputs.as_slice())?;
     text.push(b'\n')?;
     Ok(text)
 }
 
 /// The line of a refused file.
-pub fn refusal_line(alloc: Global, refusal: FirstRefusal) -> Result<Vec<u8>, AllocError>
-    ensures { IfOk result (λ text. text.items ≡ refusal_text refusal) }
+pub fn refusal_line(alloc: Global, refusal: Refusal) -> Result<Vec<u8>, AllocError>
+    ensures { IfOk result (λ text. text.items ≡ verdict_text (refused_by refusal)) }
+{
+    let mut text = b"refused".to_vec(alloc)?;
+    match refusal {
+        Refusal::Read(refusal) => put_read_refusal(alloc, &mut text, refusal)?,
+        Refusal::Replay(refusal) => put_replay_refusal(alloc, &mut text, refusal)?,
+    }
+    text.push(b'\n')?;
+    Ok(text)
+}
+
+// Appends the number of a refusal and its field.
+fn put_read_refusal(
+    alloc: Global,
+    text: &mut Vec<u8>,
+    refusal: ReadRefusal,
+) -> Result<(), AllocError>
+    ensures { OnOk result (text.new.items ≡ text.old.items ++ read_text refusal) }
 {
     match refusal {
-        FirstRefusal::File => b"refused file\n".to_vec(alloc),
-        FirstRefusal::NotBuilt => b"not built\n".to_vec(alloc),
-        FirstRefusal::Alone => b"refused alone\n".to_vec(alloc),
+        ReadRefusal::TooLong(length) => put_pair(alloc, text, 1, length),
+        ReadRefusal::BadMagic => put_number(alloc, text, 2),
+        ReadRefusal::Truncated(length) => put_pair(alloc, text, 3, length),
+        ReadRefusal::BadMetadata => put_number(alloc, text, 4),
+        ReadRefusal::BadVersion(version) => put_pair(alloc, text, 5, version),
+        ReadRefusal::BadSizes => put_number(alloc, text, 6),
+        ReadRefusal::TooManySegments(count) => put_pair(alloc, text, 7, count),
+        ReadRefusal::TooLarge(sum) => put_pair(alloc, text, 8, sum),
+        ReadRefusal::TooManySteps(count) => put_pair(alloc, text, 9, count),
+        ReadRefusal::BadCell(index) => put_pair(alloc, text, 10, u64::from(index)),
+        ReadRefusal::TrailingBytes(count) => put_pair(alloc, text, 11, count),
     }
 }
 
-/// The line of a certificate that the machine accepts.
-pub fn accepted_line(alloc: Global, steps: u64, outputs: &[Felt]) -> Result<Vec<u8>, AllocError>
-    ensures { IfOk result (λ text. text.items ≡ accepted_text steps (map (λ f. f.number) outputs.now)) }
+// Appends the number of a refusal and its fields.
+fn put_replay_refusal(
+    alloc: Global,
+    text: &mut Vec<u8>,
+    refusal: ReplayRefusal,
+) -> Result<(), AllocError>
+    ensures { OnOk result (text.new.items ≡ text.old.items ++ replay_text (replay_cause refusal)) }
 {
-    let mut text = b"accepted alone".to_vec(alloc)?;
-    put_number(alloc, &mut text, steps)?;
-    text.extend_from_slice(b" outputs")?;
-    put_numbers(alloc, &mut text, outputs)?;
-    text.push(b'\n')?;
-    Ok(text)
-}
-
-/// The line of a certificate of a kind, or with cells, that isn't checked yet.
-pub fn not_built_line(alloc: Global) -> Result<Vec<u8>, AllocError>
-    ensures { IfOk result (λ text. text.items ≡ check_text not_built) }
-{
-    b"not built\n".to_vec(alloc)
-}
-
-/// The line of a refused certificate.
-pub fn certificate_line(alloc: Global, refusal: CertRefusal) -> Result<Vec<u8>, AllocError>
-    ensures { IfOk result (λ text. text.items ≡ check_text (no_certificate refusal)) }
-{
-    let mut text = b"refused certificate".to_vec(alloc)?;
     match refusal {
-        CertRefusal::BadMagic => put_number(alloc, &mut text, 1)?,
-        CertRefusal::Truncated(length) => put_pair(alloc, &mut text, 2, length)?,
-        CertRefusal::BadNumber(place) => put_pair(alloc, &mut text, 3, place)?,
-        CertRefusal::Order(place) => put_pair(alloc, &mut text, 4, place)?,
-        CertRefusal::Trailing(count) => put_pair(alloc, &mut text, 5, count)?,
-    }
-    text.push(b'\n')?;
-    Ok(text)
-}
-
-/// The line of a certificate that the machine doesn't accept.
-pub fn fault_line(alloc: Global, fault: RunFault) -> Result<Vec<u8>, AllocError>
-    ensures { IfOk result (λ text. text.items ≡ check_text (faulty fault)) }
-{
-    let mut text = b"refused run".to_vec(alloc)?;
-    put_fault(alloc, &mut text, fault)?;
-    text.push(b'\n')?;
-    Ok(text)
-}
-
-// Appends the number of a fault and its fields.
-fn put_fault(alloc: Global, text: &mut Vec<u8>, fault: RunFault) -> Result<(), AllocError>
-    ensures { OnOk result (text.new.items ≡ text.old.items ++ fault_text fault) }
-{
-    match fault {
-        RunFault::Start(k) => put_pair(alloc, text, 2, u64::from(k)),
-        RunFault::End(k) => put_pair(alloc, text, 3, u64::from(k)),
-        RunFault::Row(n, cause) => {
-            put_pair(alloc, text, 6, u64::from(n))?;
-            put_number(alloc, text, number_of_cause(cause))
+        ReplayRefusal::ProgramCell(offset) => put_pair(alloc, text, 20, u64::from(offset)),
+        ReplayRefusal::BadMain(main) => put_pair(alloc, text, 21, main),
+        ReplayRefusal::BadFrame(index) => put_pair(alloc, text, 22, u64::from(index)),
+        ReplayRefusal::OutputCell(offset) => put_pair(alloc, text, 23, u64::from(offset)),
+        ReplayRefusal::RangeCell(offset) => put_pair(alloc, text, 24, u64::from(offset)),
+        ReplayRefusal::HashInstance(index) => put_pair(alloc, text, 25, u64::from(index)),
+        ReplayRefusal::Step(number, fault) => {
+            put_pair(alloc, text, 26, u64::from(number))?;
+            put_number(alloc, text, number_of_fault(fault))
         }
-        RunFault::Output(i) => {
-            put_pair(alloc, text, 7, i)?;
-            text.extend_from_slice(b" - -")
+        ReplayRefusal::NotHome(pc) => {
+            put_number(alloc, text, 27)?;
+            put_value(alloc, text, pc)
         }
+        ReplayRefusal::WrongFrame(fp) => {
+            put_number(alloc, text, 28)?;
+            put_value(alloc, text, fp)
+        }
+        ReplayRefusal::StopPointer(index) => put_pair(alloc, text, 29, u64::from(index)),
     }
-}
-
-fn number_of_cause(cause: RowCause) -> u64
-    ensures { result ≡ cause_number cause }
-{
-    match cause {
-        RowCause::Fault(fault) => number_of_fault(fault),
-        RowCause::Next => 11,
-    }
-}
-
-fn number_of_fault(fault: StepFault) -> u64
-    ensures { result ≡ step_fault_number fault }
-{
-    match fault {
-        StepFault::Fetch => 1,
-        StepFault::Word => 2,
-        StepFault::Dst => 3,
-        StepFault::Op0 => 4,
-        StepFault::Op1 => 5,
-        StepFault::Res => 6,
-        StepFault::Jump => 7,
-        StepFault::Call => 8,
-        StepFault::Assert => 9,
-        StepFault::Frame => 10,
-    }
-}
-
-// Appends each number in decimal, after one space.
-fn put_numbers(alloc: Global, text: &mut Vec<u8>, numbers: &[Felt]) -> Result<(), AllocError>
-    ensures { OnOk result (text.new.items ≡ text.old.items ++ numbers_text (map (λ f. f.number) numbers.now)) }
-{
-    for number in numbers {
-        put_number(alloc, text, number.value())?;
-    }
-    Ok(())
-}
-
-fn put_pair(alloc: Global, text: &mut Vec<u8>, first: u64, second: u64) -> Result<(), AllocError>
-    ensures { OnOk result (text.new.items ≡ text.old.items ++ numbers_text (first ∷ second ∷ [])) }
-{
-    put_number(alloc, text, first)?;
-    put_number(alloc, text, second)
-}
-
-fn put_number(alloc: Global, text: &mut Vec<u8>, number: u64) -> Result<(), AllocError>
-    ensures { OnOk result (text.new.items ≡ text.old.items ++ numbers_text (number ∷ [])) }
-{
-    let digits = number.to_string(alloc)?;
-    text.push(b' ')?;
-    text.extend_from_slice(digits.as_bytes())
 }

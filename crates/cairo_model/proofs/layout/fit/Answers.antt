@@ -1,4 +1,4 @@
-use Rattle.std.proofs.Common.{◌∙◌, length}
+use Rattle.std.proofs.Common.{◌∙◌}
 use Rattle.std.proofs.lemmas.List.{length-map}
 use Rattle.goldi_field.specs.declared.Felt.{Felt}
 use Rattle.cairo_model.proofs.layout.fit.Goals as goal

@@ -1,4 +1,4 @@
-use Rattle.std.proofs.Common.{refl, rules, below_more, ◌<◌, length}
+use Rattle.std.proofs.Common.{refl, rules, below_more}
 use Rattle.std.proofs.lemmas.Bool.{iff_false, false≢true}
 use Rattle.cairo_model.proofs.layout.is_apart.Goals as goal
 

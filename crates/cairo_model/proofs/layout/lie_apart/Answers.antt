@@ -1,6 +1,5 @@
-use Rattle.std.proofs.Common.{rules, refl}
 use Rattle.std.proofs.lemmas.Bool.{iff_false, true_from_ne_false}
-use Rattle.cairo_model.proofs.Stretches.{share_none_below, share_none_above, share_one}
+use Rattle.cairo_model.proofs.Stretches.{share_none_above, share_one}
 use Rattle.cairo_model.proofs.layout.lie_apart.Goals as goal
 
 pub returns-else-ends_by : goal.returns-else-ends_by

@@ -1,9 +1,6 @@
 use Rattle.std.proofs.Common.{◌≡◌, ◌++◌, length, map, take}
 use Rattle.std.specs.List.{flat_map}
 use Rattle.std.specs.Int.{w32, w64, to_be_bytes}
-use Rattle.cairo_model.specs.FieldMemories.{field_cell}
-use Rattle.cairo_model.specs.Views.{field_registers}
-use Rattle.cert_format.specs.Spelling.{cell_bytes, mark_bytes, state_bytes}
 use Rattle.cert_format.proofs.writing.put_bases.Given as goal
 
 abbrev pub invariant-loop-base : goal.invariant-loop-base

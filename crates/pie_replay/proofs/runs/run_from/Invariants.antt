@@ -1,11 +1,11 @@
 use Rattle.std.proofs.Common.{◌≡◌, ◌+◌, map, length}
 use Rattle.cairo_model.specs.Machine.{value_arithmetic, RunsTo}
-use Rattle.cairo_model.specs.Pies.{memory_of}
+use Rattle.seg_memory.specs.Memory.{memory_in}
 use Rattle.cairo_model.specs.Views.{registers}
 use Rattle.pie_replay.proofs.runs.run_from.Given as goal
 
 abbrev pub invariant-loop-number : goal.invariant-loop-number
 invariant-loop-number l = record {
-  runs : RunsTo value_arithmetic (memory_of l.memory) (registers l.fn.start) (map registers l.states.items) (registers l.last);
+  runs : RunsTo value_arithmetic (memory_in l.memory) (registers l.fn.start) (map registers l.states.items) (registers l.last);
   counts : length l.states.items ≡ l.number + 1;
 }

@@ -3,9 +3,9 @@ use Rattle.cairo_model.specs.Answers.{Ends}
 use Rattle.cairo_model.specs.declared.end.End.{End}
 use Rattle.cert_format.specs.Reading.{reading}
 use Rattle.cert_format.specs.declared.refusal.CertRefusal.{CertRefusal}
-use Rattle.shared_prover_cli.specs.CheckAnswers.{IsPlain}
+use Rattle.shared_prover_cli.specs.CheckAnswers.{IsOfOnePie}
 use Rattle.shared_prover_cli.specs.CheckAnswers as check
-use Rattle.shared_prover_cli.specs.Texts.{accepted_text}
+use Rattle.shared_prover_cli.specs.CheckTexts.{accepted_text}
 use Rattle.shared_prover_cli.proofs.CheckLaws.{accepted, has_state, not_accepted}
 use Rattle.shared_prover_cli.proofs.check.check_answer.Goals as goal
 
@@ -25,12 +25,12 @@ returns-in-Err-Refused c = record {
 pub returns-in-Ok-checked_outputs : goal.returns-in-Ok-checked_outputs
 returns-in-Ok-checked_outputs c =
     let cert = c.in-Ok.cert in
-    let plain : IsPlain c.in-Ok.cert = search rules in
-    let accepts = accepted cert plain.1.0 plain.1.1 c.in-Ok-checked_outputs.ensures.clean in
+    let of_one : IsOfOnePie c.in-Ok.cert = search rules in
+    let accepts = accepted cert c.in-Ok-checked_outputs.ensures.clean in
     let count : length c.in-Ok.cert.states ≡ c.steps_of.result + 1 = omega (arith, has_state cert accepts, c.steps_of.ensures) in
     record {
       answer = check.accepted c.steps_of.result (map (λ f. f.number) c.in-Ok-checked_outputs.outputs.items);
-      is_answer = (cert, (c.in-Ok.ensures.sound, (plain, (accepts, (count, c.in-Ok-checked_outputs.ensures.outputs)))));
+      is_answer = (cert, (c.in-Ok.ensures.sound, (of_one, (accepts, (count, c.in-Ok-checked_outputs.ensures.outputs)))));
       has_status = refl;
       has_text = c.in_ok-accepted_line-in-Ok-checked_outputs.ensures ∙ ap (λ xs. accepted_text c.steps_of.result (map (λ f. f.number) xs)) c.as_slice.ensures.value;
     }
@@ -39,12 +39,12 @@ returns-in-Ok-checked_outputs c =
 pub returns-in-Err-Refused-checked_outputs : goal.returns-in-Err-Refused-checked_outputs
 returns-in-Err-Refused-checked_outputs c =
     let cert = c.in-Ok.cert in
-    let plain : IsPlain c.in-Ok.cert = search rules in
+    let of_one : IsOfOnePie c.in-Ok.cert = search rules in
     let fault = c.in-Err-Refused-checked_outputs.fault in
     let found = c.in-Err-Refused-checked_outputs.ensures.fault fault (cc) in
     record {
       answer = check.faulty fault;
-      is_answer = (cert, (c.in-Ok.ensures.sound, (plain, (found, not_accepted cert fault found))));
+      is_answer = (cert, (c.in-Ok.ensures.sound, (of_one, (found, not_accepted cert fault found))));
       has_status = c.refused-in-Err-Refused-checked_outputs.ensures.0;
       has_text = ap (λ (v : Vec ℕ Global). v.items) c.refused-in-Err-Refused-checked_outputs.ensures.1 ∙ c.in_ok-fault_line-in-Err-Refused-checked_outputs.ensures;
     }

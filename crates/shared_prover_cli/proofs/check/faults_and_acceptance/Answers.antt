@@ -2,4 +2,4 @@ use Rattle.shared_prover_cli.proofs.CheckLaws.{accepted, clean}
 use Rattle.shared_prover_cli.proofs.check.faults_and_acceptance.Goals as goal
 
 pub returns : goal.returns
-returns c = λ cert plain. (accepted cert plain.1.0 plain.1.1, λ accepts. clean cert accepts)
+returns c = λ cert alone. (accepted cert, λ accepts. clean cert accepts)

@@ -1,4 +1,4 @@
-use Rattle.std.proofs.Common.{◌≡◌, map, drop, length}
+use Rattle.std.proofs.Common.{◌≡◌, map, drop}
 use Rattle.cairo_model.specs.FieldMemories.{cell_at}
 use Rattle.cairo_model.specs.Views.{field_registers}
 use Rattle.shared_prover_cli.specs.RunFaults.{row_fault}

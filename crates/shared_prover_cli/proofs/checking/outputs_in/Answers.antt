@@ -1,8 +1,10 @@
-use Rattle.std.proofs.Common.{◌≡◌, ◌-◌, true, false, is_some, Some, refl, sym, ap, ◌∙◌}
+use Rattle.std.proofs.Common.{◌≡◌, ◌-◌, ℕ, true, false, is_some, Some, refl, sym, ap, ◌∙◌}
 use Rattle.std.proofs.lemmas.List.{map_push}
 use Rattle.cairo_model.specs.Certificates.{CertRecord}
 use Rattle.cairo_model.specs.FieldMemories.{cell_at}
-use Rattle.shared_prover_cli.proofs.CheckLemmas.{goes_on, holds_more, stops_at}
+use Rattle.shared_prover_cli.specs.SpanFaults.{has_cell}
+use Rattle.shared_prover_cli.proofs.CheckLemmas.{holds_more}
+use Rattle.shared_prover_cli.proofs.FirstBad.{at_distance, goes_on_above, stops_above}
 use Rattle.shared_prover_cli.proofs.checking.outputs_in.Goals as goal
 
 -- this address has none
@@ -15,7 +17,8 @@ returns-in-None-clause-absent c = λ i same.
     let to : c.value-address-end.result ≡ c.args.cert.now.output.stop = c.value-address-end.ensures ∙ ap (λ (r : CertRecord). r.output.stop) c.cert.view_is in
     rw (← from, ← to)
     (sym c.loop-address.invariant.absent
-    ∙ stops_at cells c.value-start.result c.loop-address.address c.value-address-end.result c.loop-address.auto.address c.loop-address-test.true away
+    ∙ stops_above (has_cell cells c.value-start.result) c.value-start.result c.loop-address.address c.value-address-end.result c.loop-address.auto.address c.loop-address-test.true
+    (at_distance (λ (a : ℕ). is_some (cell_at cells a)) c.value-start.result c.loop-address.address false c.loop-address.auto.address away)
     ∙ ap Some index)
 
 -- this address has a cell
@@ -26,5 +29,6 @@ loop-address-preserved c =
     let there : is_some (cell_at cells c.loop-address.address) ≡ true = rw found refl in
     record {
       holds = rw (c.in_ok-push-in-Some.ensures.items, map_push) (holds_more cells c.value-start.result c.loop-address.address _ c.in-Some.value.number c.loop-address.auto.address c.loop-address.invariant.holds found);
-      absent = sym (goes_on cells c.value-start.result c.loop-address.address c.value-address-end.result c.loop-address.auto.address c.loop-address-test.true there) ∙ c.loop-address.invariant.absent;
+      absent = sym (goes_on_above (has_cell cells c.value-start.result) c.value-start.result c.loop-address.address c.value-address-end.result c.loop-address.auto.address c.loop-address-test.true
+          (at_distance (λ (a : ℕ). is_some (cell_at cells a)) c.value-start.result c.loop-address.address true c.loop-address.auto.address there)) ∙ c.loop-address.invariant.absent;
     }

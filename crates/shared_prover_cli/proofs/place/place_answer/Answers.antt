@@ -1,11 +1,14 @@
-use Rattle.std.proofs.Common.{refl, Ok, Err}
+use Rattle.std.proofs.Common.{refl}
+use Rattle.cairo_model.specs.RefusalViews.{refused}
+use Rattle.cairo_model.specs.Verdicts.{admitted}
+use Rattle.shared_prover_cli.proofs.VerdictStatus.{refused_status, refused_placed}
 use Rattle.shared_prover_cli.proofs.place.place_answer.Goals as goal
 
 -- the certificate of the PIE that was admitted
 pub returns-in_ok-certificate_bytes-in-Ok : goal.returns-in_ok-certificate_bytes-in-Ok
 returns-in_ok-certificate_bytes-in-Ok c = record {
-  answer = Ok c.in-Ok.checked;
-  is_answer = c.in-Ok.ensures.admitted;
+  verdict = admitted c.in-Ok.checked;
+  is_verdict = c.in-Ok.ensures.admitted;
   has_status = refl;
   has_text = c.in_ok-certificate_bytes-in-Ok.ensures;
 }
@@ -13,8 +16,8 @@ returns-in_ok-certificate_bytes-in-Ok c = record {
 -- the line of the refusal
 pub returns-in_ok-refusal_line-in-Err-Refused : goal.returns-in_ok-refusal_line-in-Err-Refused
 returns-in_ok-refusal_line-in-Err-Refused c = record {
-  answer = Err c.in-Err-Refused.refusal;
-  is_answer = c.in-Err-Refused.ensures.refused c.in-Err-Refused.refusal (cc);
-  has_status = refl;
-  has_text = c.in_ok-refusal_line-in-Err-Refused.ensures;
+  verdict = refused c.in-Err-Refused.refusal;
+  is_verdict = c.in-Err-Refused.ensures.refused c.in-Err-Refused.refusal (cc);
+  has_status = refused_status c.in-Err-Refused.refusal;
+  has_text = refused_placed c.in-Err-Refused.refusal _ c.in_ok-refusal_line-in-Err-Refused.ensures;
 }

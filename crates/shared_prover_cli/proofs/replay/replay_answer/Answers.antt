@@ -1,21 +1,24 @@
-use Rattle.std.proofs.Common.{refl, ap, ◌∙◌, Ok, Err}
+use Rattle.std.proofs.Common.{refl, ap, ◌∙◌}
+use Rattle.cairo_model.specs.RefusalViews.{refused}
+use Rattle.cairo_model.specs.Verdicts.{admitted}
 use Rattle.shared_prover_cli.specs.Texts.{admitted_text}
+use Rattle.shared_prover_cli.proofs.VerdictStatus.{refused_status}
 use Rattle.shared_prover_cli.proofs.replay.replay_answer.Goals as goal
 
 -- the line of the PIE that was admitted
 pub returns-in_ok-admitted_line-in-Ok : goal.returns-in_ok-admitted_line-in-Ok
 returns-in_ok-admitted_line-in-Ok c = record {
-  answer = Ok c.in-Ok.checked;
-  is_answer = c.in-Ok.ensures.admitted;
+  verdict = admitted c.in-Ok.checked;
+  is_verdict = c.in-Ok.ensures.admitted;
   has_status = refl;
-  has_text = c.in_ok-admitted_line-in-Ok.ensures ∙ ap admitted_text (c.as_slice.ensures ∙ c.outputs.ensures);
+  has_text = c.in_ok-admitted_line-in-Ok.ensures ∙ ap admitted_text c.fact.ensures;
 }
 
 -- the line of the refusal
 pub returns-in_ok-refusal_line-in-Err-Refused : goal.returns-in_ok-refusal_line-in-Err-Refused
 returns-in_ok-refusal_line-in-Err-Refused c = record {
-  answer = Err c.in-Err-Refused.refusal;
-  is_answer = c.in-Err-Refused.ensures.refused c.in-Err-Refused.refusal (cc);
-  has_status = refl;
+  verdict = refused c.in-Err-Refused.refusal;
+  is_verdict = c.in-Err-Refused.ensures.refused c.in-Err-Refused.refusal (cc);
+  has_status = refused_status c.in-Err-Refused.refusal;
   has_text = c.in_ok-refusal_line-in-Err-Refused.ensures;
 }

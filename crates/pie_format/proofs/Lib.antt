@@ -1,0 +1,14 @@
+pub mod ReadingSizes
+pub mod ReadingLoop
+pub mod ReadingFields
+pub mod ReadingParts
+pub mod ReadingMetadata
+pub mod ReadingCells
+pub mod ReadingLaws
+pub mod Appending
+pub mod Causes
+pub mod CausesParts
+pub mod CausesMetadata
+pub mod CausesCells
+pub mod CausesLaws
+pub mod WritingLaws

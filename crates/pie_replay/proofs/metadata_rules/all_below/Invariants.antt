@@ -1,6 +1,0 @@
-use Rattle.std.proofs.Common.{◌≡◌, drop}
-use Rattle.pie_replay.specs.Reading.{all_below}
-use Rattle.pie_replay.proofs.metadata_rules.all_below.Given as goal
-
-abbrev pub invariant-loop-size : goal.invariant-loop-size
-invariant-loop-size l = all_below l.limit (drop l.size-index l.sizes) ≡ all_below l.limit l.sizes

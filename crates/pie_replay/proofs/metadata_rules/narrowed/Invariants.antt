@@ -1,5 +1,0 @@
-use Rattle.std.proofs.Common.{◌≡◌, take}
-use Rattle.pie_replay.proofs.metadata_rules.narrowed.Given as goal
-
-abbrev pub invariant-loop-size : goal.invariant-loop-size
-invariant-loop-size l = l.narrow.items ≡ take l.size-index l.sizes

@@ -1,0 +1,4 @@
+pub mod Cells
+pub mod Gaps
+pub mod Puts
+pub mod Starts

@@ -1,0 +1,83 @@
+ghost use Rattle.std.specs.Prelude.{◌≡◌, ◌++◌, OnOk, IfOk, map};
+ghost use Rattle.shared_prover_cli.specs.CheckAnswers.{faulty, no_certificate, not_built};
+ghost use Rattle.shared_prover_cli.specs.CheckTexts.{accepted_text, cause_number, check_text, fault_text};
+
+use crate::numerals::{number_of_fault, put_number, put_numbers, put_pair};
+use crate::run_fault::{RowCause, RunFault};
+use cert_format::CertRefusal;
+use goldi_field::Felt;
+use std::alloc::{AllocError, Global};
+
+/// The line of a certificate that the machine accepts.
+pub fn accepted_line(alloc: Global, steps: u64, outputs: &[Felt]) -> Result<Vec<u8>, AllocError>
+    ensures { IfOk result (λ text. text.items ≡ accepted_text steps (map (λ f. f.number) outputs.now)) }
+{
+    let mut text = b"accepted alone".to_vec(alloc)?;
+    put_number(alloc, &mut text, steps)?;
+    text.extend_from_slice(b" outputs")?;
+    put_numbers(alloc, &mut text, outputs)?;
+    text.push(b'\n')?;
+    Ok(text)
+}
+
+/// The line of a certificate of a batch, which isn't checked yet.
+pub fn not_built_line(alloc: Global) -> Result<Vec<u8>, AllocError>
+    ensures { IfOk result (λ text. text.items ≡ check_text not_built) }
+{
+    b"not built\n".to_vec(alloc)
+}
+
+/// The line of a refused certificate.
+pub fn certificate_line(alloc: Global, refusal: CertRefusal) -> Result<Vec<u8>, AllocError>
+    ensures { IfOk result (λ text. text.items ≡ check_text (no_certificate refusal)) }
+{
+    let mut text = b"refused certificate".to_vec(alloc)?;
+    match refusal {
+        CertRefusal::BadMagic => put_number(alloc, &mut text, 1)?,
+        CertRefusal::Truncated(length) => put_pair(alloc, &mut text, 2, length)?,
+        CertRefusal::BadNumber(place) => put_pair(alloc, &mut text, 3, place)?,
+        CertRefusal::Order(place) => put_pair(alloc, &mut text, 4, place)?,
+        CertRefusal::Trailing(count) => put_pair(alloc, &mut text, 5, count)?,
+    }
+    text.push(b'\n')?;
+    Ok(text)
+}
+
+/// The line of a certificate that the machine doesn't accept.
+pub fn fault_line(alloc: Global, fault: RunFault) -> Result<Vec<u8>, AllocError>
+    ensures { IfOk result (λ text. text.items ≡ check_text (faulty fault)) }
+{
+    let mut text = b"refused run".to_vec(alloc)?;
+    put_fault(alloc, &mut text, fault)?;
+    text.push(b'\n')?;
+    Ok(text)
+}
+
+// Appends the number of a fault and its fields.
+fn put_fault(alloc: Global, text: &mut Vec<u8>, fault: RunFault) -> Result<(), AllocError>
+    ensures { OnOk result (text.new.items ≡ text.old.items ++ fault_text fault) }
+{
+    match fault {
+        RunFault::Start(k) => put_pair(alloc, text, 2, u64::from(k)),
+        RunFault::End(k) => put_pair(alloc, text, 3, u64::from(k)),
+        RunFault::Range(i) => put_pair(alloc, text, 4, i),
+        RunFault::Hash(i) => put_pair(alloc, text, 5, i),
+        RunFault::Row(n, cause) => {
+            put_pair(alloc, text, 6, u64::from(n))?;
+            put_number(alloc, text, number_of_cause(cause))
+        }
+        RunFault::Output(i) => {
+            put_pair(alloc, text, 7, i)?;
+            text.extend_from_slice(b" - -")
+        }
+    }
+}
+
+fn number_of_cause(cause: RowCause) -> u64
+    ensures { result ≡ cause_number cause }
+{
+    match cause {
+        RowCause::Fault(fault) => number_of_fault(fault),
+        RowCause::Next => 11,
+    }
+}
