@@ -1,7 +1,8 @@
 use crate::asking::answer;
 use crate::vectors::{
-    ADDR, FIVE, FIVE_CERTIFICATE, HASH_CERTIFICATE, HASH0, RANGE_7, RANGE_CERTIFICATE,
-    SILENT_CERTIFICATE,
+    ADDR, BACK, BACK_CERTIFICATE, DOWN_3, DOWN_3_CERTIFICATE, EMPTY, EMPTY_CERTIFICATE, FIVE,
+    FIVE_CERTIFICATE, HASH_CERTIFICATE, HASH0, RANGE_7, RANGE_CERTIFICATE, SILENT_CERTIFICATE,
+    TALL, TALL_CERTIFICATE,
 };
 use hex::decode;
 use std::alloc::Global;
@@ -21,7 +22,11 @@ fn changed(alloc: Global, digits: &str, changes: &[(usize, u8)]) -> Result<Vec<u
 #[test]
 fn a_placed_run_is_its_certificate(rt: HostRuntime) -> Result<(), Fail> {
     for (digits, certificate) in [
+        (EMPTY, EMPTY_CERTIFICATE),
         (FIVE, FIVE_CERTIFICATE),
+        (BACK, BACK_CERTIFICATE),
+        (TALL, TALL_CERTIFICATE),
+        (DOWN_3, DOWN_3_CERTIFICATE),
         (RANGE_7, RANGE_CERTIFICATE),
         (HASH0, HASH_CERTIFICATE),
     ] {
@@ -43,7 +48,11 @@ fn a_placed_run_is_its_certificate(rt: HostRuntime) -> Result<(), Fail> {
 #[test]
 fn certificates_have_their_answers(rt: HostRuntime) -> Result<(), Fail> {
     for (digits, status, text) in [
+        (EMPTY_CERTIFICATE, 0, "accepted alone 4 outputs\n"),
         (FIVE_CERTIFICATE, 0, "accepted alone 6 outputs 5\n"),
+        (BACK_CERTIFICATE, 0, "accepted alone 7 outputs\n"),
+        (TALL_CERTIFICATE, 0, "accepted alone 4 outputs\n"),
+        (DOWN_3_CERTIFICATE, 0, "accepted alone 20 outputs 1\n"),
         (RANGE_CERTIFICATE, 0, "accepted alone 6 outputs\n"),
         (HASH_CERTIFICATE, 0, "accepted alone 4 outputs\n"),
         (SILENT_CERTIFICATE, 1, "refused run 7 0 - -\n"),
