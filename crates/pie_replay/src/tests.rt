@@ -1,3 +1,5 @@
+ghost use Rattle.std.specs.Prelude.{◌<◌};
+
 use crate::{replay, step_value};
 use cairo_model::{Place, Shape, State, Value};
 use hex::decode;
@@ -24,13 +26,18 @@ fn a_worked_pie_has_its_fact_its_shape_and_its_states(rt: HostRuntime) -> Result
     Ok(())
 }
 
+fn at(segment: u16, offset: u32) -> Value
+    requires { offset < 10 }
+{
+    Value::At(Place { segment, offset })
+}
+
 // A word that writes its immediate to the stack moves pc by two cells and ap by one.
 #[test]
 fn a_step_moves_the_registers(rt: HostRuntime) -> Result<(), Fail> {
     let alloc = rt.alloc();
     let pie = read(alloc, decode(alloc, FIVE)?.as_slice())?;
     let memory = SegMemory::of(alloc, &pie)?;
-    let at = |segment, offset| Value::At(Place { segment, offset });
     let start = State {
         pc: at(0, 0),
         ap: at(1, 5),
