@@ -112,11 +112,11 @@ tested_there (Some numbers) e = refl
 tested_is : (o : Option (List ℕ)) (numbers : List ℕ) → o ≡ Some numbers → option_map_or is_instance o false ≡ true → is_instance numbers ≡ true
 tested_is o numbers is e = ap (λ (p : Option (List ℕ)). option_map_or is_instance p false) (sym is) ∙ e
 
-record Groups (n : ℕ) : Type 0 where
-  least : n ≤ 20 * ((n + 19) / 20)
-  most : 20 * ((n + 19) / 20) ≤ n + 19
+pub record Groups (n : ℕ) : Type 0 where
+  pub least : n ≤ 20 * ((n + 19) / 20)
+  pub most : 20 * ((n + 19) / 20) ≤ n + 19
 
-groups : (n : ℕ) → Groups n
+pub groups : (n : ℕ) → Groups n
 groups n =
     let below : (n + 19) % 20 < 20 = mod-lt (n + 19) (lit< tt) in
     let whole = div-add-mod (n + 19) 20 in
