@@ -13,7 +13,7 @@ use Rattle.shared_prover_cli.specs.declared.run_fault.RunFault.{RunFault}
 use Rattle.shared_prover_cli.specs.declared.run_fault.RunFault.TheVariants as faults
 use Rattle.shared_prover_cli.proofs.CheckLaws.{accepted, clean, rows_run}
 use Rattle.shared_prover_cli.proofs.FrameCauses.{end_full, end_is, last_at, start_full, start_is}
-use Rattle.shared_prover_cli.proofs.OrElse.{first_none, first_some, map_none, map_some}
+use Rattle.shared_prover_cli.proofs.OrElse.{first_none, first_some, map_none, map_some, some_is}
 use Rattle.shared_prover_cli.proofs.RowCauses.{IsFirstStop, all_lead, one_row_cause, stop_is}
 use Rattle.shared_prover_cli.proofs.SpanCauses.{hash_full, hash_is, output_full, output_is, range_full, range_is}
 
@@ -178,16 +178,16 @@ module _ (cert : CertRecord) where
 
   -- ---- the whole
 
-  some_is : (f g : RunFault) → Some f ≡ Some g → f ≡ g
-  some_is f g e = cc
-
   -- a certificate without a state
   no_state : cert.states ≡ [] → Found 2 (faults.Start 0)
-  no_state same = (refl, record {
-    inside = omega arith;
-    fails = λ rule. absurd (none_is_first rule.first rule.is_first);
-    before = λ k lt. absurd (omega (arith, lt));
-  })
+  no_state same = (
+    refl,
+    record {
+      inside = omega arith;
+      fails = λ rule. absurd (none_is_first rule.first rule.is_first);
+      before = λ k lt. absurd (omega (arith, lt));
+    },
+  )
     where
       none_is_first : (s : Registers ℕ) → IsFirstState cert.states s → ⊥
       none_is_first s is =

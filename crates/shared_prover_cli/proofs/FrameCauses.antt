@@ -1,5 +1,5 @@
 -- The start and the end: the tests of a frame decide its rules, so the first that fails is the least that isn't kept.
-use Rattle.std.proofs.Common.{◌≡◌, ℕ, zero, suc, ◌+◌, ◌-◌, ◌<◌, ◌≤◌, ◌==◌, not, Bool, true, false, List, [], ◌∷◌, length, get_or, slice_get, Option, Some, None, is_some, Decides, refl, sym, ap, subst, ◌∙◌, arith}
+use Rattle.std.proofs.Common.{◌≡◌, ℕ, zero, suc, ◌+◌, ◌-◌, ◌<◌, ◌≤◌, not, Bool, true, false, List, [], ◌∷◌, length, get_or, slice_get, Some, None, Decides, refl, sym, ap, subst, ◌∙◌, arith}
 use Rattle.std.proofs.lemmas.Bool.{eq-eqb, eqb-true}
 use Rattle.std.proofs.lemmas.List.Quantifiers.{position-Some}
 use Rattle.cairo_model.specs.Certificates.{CertRecord}
@@ -9,6 +9,7 @@ use Rattle.cairo_model.specs.MachineAcceptance.{cell_below}
 use Rattle.shared_prover_cli.specs.FaultCauses.{IsFirstState, IsLastState, IsState, IsThere, KeepsEndRule, KeepsStartRule}
 use Rattle.shared_prover_cli.specs.RunFaults.{first_failing, start_tests, end_tests}
 use Rattle.shared_prover_cli.proofs.CheckLaws.{AllTrue, holds_is, is_held, none_failing}
+use Rattle.shared_prover_cli.proofs.OrElse.{some_is}
 use Rattle.shared_prover_cli.proofs.SpanCauses.{decides_there}
 
 -- ---- a list of tests decides rules, the first test being that of rule 1
@@ -56,11 +57,8 @@ module _ (tests : List Bool) (Inside Rule : ℕ → Type 0) (decides : (k : ℕ)
 
 -- ---- the first and the last state
 
-state_is : (s t : Registers ℕ) → Some s ≡ Some t → s ≡ t
-state_is s t e = cc
-
 pub one_state : (states : List (Registers ℕ)) (n : ℕ) (s t : Registers ℕ) → IsState states n s → IsState states n t → s ≡ t
-one_state states n s t is other = state_is s t (sym is ∙ other)
+one_state states n s t is other = some_is s t (sym is ∙ other)
 
 pub last_at : (s : Registers ℕ) (ts : List (Registers ℕ)) → slice_get (s ∷ ts) (length ts) ≡ Some (last_of s ts)
 last_at s [] = refl

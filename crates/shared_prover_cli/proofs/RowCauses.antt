@@ -1,9 +1,10 @@
 -- The rows: the first fault that the walk finds is at the least state that doesn't lead to the next one.
-use Rattle.std.proofs.Common.{◌≡◌, ◌≢◌, ℕ, zero, suc, ◌+◌, ◌<◌, Bool, true, false, cond, List, [], ◌∷◌, length, slice_get, Option, Some, None, option_map, Result, Ok, Err, refl, sym, ap, subst, ◌∙◌, arith}
+use Rattle.std.proofs.Common.{◌≡◌, ◌≢◌, ℕ, zero, suc, ◌+◌, ◌<◌, Bool, true, false, cond, List, [], ◌∷◌, length, slice_get, Some, None, option_map, Result, Ok, Err, refl, sym, ap, subst, ◌∙◌, arith}
 use Rattle.cairo_model.specs.FieldMemories.{FieldCell, cell_at}
 use Rattle.cairo_model.specs.FirstFailing.{IsFirstFailing}
 use Rattle.cairo_model.specs.Machine.{Registers, RunFrom, Step, field_arithmetic, next}
 use Rattle.cairo_model.specs.declared.fault.StepFault.{StepFault}
+use Rattle.cairo_model.proofs.Chains.{no_fault, ok_same}
 use Rattle.shared_prover_cli.specs.FaultCauses.{IsRowCause, LeadsOn, StopsBy}
 use Rattle.shared_prover_cli.specs.RunFaults.{cause_of, row_fault, same_registers}
 use Rattle.shared_prover_cli.specs.declared.run_fault.RowCause.{RowCause}
@@ -12,64 +13,43 @@ use Rattle.shared_prover_cli.specs.declared.run_fault.RunFault.{RunFault}
 use Rattle.shared_prover_cli.specs.declared.run_fault.RunFault.TheVariants as faults
 use Rattle.shared_prover_cli.proofs.CheckLaws.{no_cause, same_self}
 use Rattle.shared_prover_cli.proofs.FrameCauses.{one_state}
-use Rattle.shared_prover_cli.proofs.OrElse.{first_some, map_none, map_some}
+use Rattle.shared_prover_cli.proofs.OrElse.{first_some, map_none, map_some, some_is}
 
 -- ---- one pair of states
-
-ok_is : (u t : Registers ℕ) → ◌≡◌ {A = Result (Registers ℕ) StepFault} (Ok u) (Ok t) → u ≡ t
-ok_is u t e = cc
 
 err_is : (d e : StepFault) → ◌≡◌ {A = Result (Registers ℕ) StepFault} (Err d) (Err e) → d ≡ e
 err_is d e same = cc
 
-ok_or_err : {R : Type 0} (u : Registers ℕ) (d : StepFault) → ◌≡◌ {A = Result (Registers ℕ) StepFault} (Ok u) (Err d) → R
-ok_or_err u d e = absurd (cc)
-
-cause_is : (c d : RowCause) → Some c ≡ Some d → c ≡ d
-cause_is c d e = cc
-
--- what a state's step gives, where that isn't the next state
-abbrev Gives : Result (Registers ℕ) StepFault → Registers ℕ → RowCause → Type 0
-Gives r t (causes.Fault fault) = r ≡ Err fault
-Gives r t causes.Next = (u : Registers ℕ) × ((r ≡ Ok u) × (u ≢ t))
-
 differs : (b : Bool) (u t : Registers ℕ) (cause : RowCause) → same_registers u t ≡ b → cond b None (Some causes.Next) ≡ Some cause → (causes.Next ≡ cause) × (u ≢ t)
 differs true u t cause is e = absurd (cc)
-differs false u t cause is e = (cause_is causes.Next cause e, λ same.
-    let self : same_registers u t ≡ true = ap (λ (s : Registers ℕ). same_registers s t) same ∙ same_self t in
-    absurd (cc))
-
-given : (r : Result (Registers ℕ) StepFault) (t : Registers ℕ) (cause : RowCause) → cause_of r t ≡ Some cause → Gives r t cause
-given (Err fault) t cause e =
-    let same : causes.Fault fault ≡ cause = cause_is (causes.Fault fault) cause e in
-    subst (Gives (Err fault) t) same refl
-given (Ok u) t cause e =
-    let found = differs (same_registers u t) u t cause refl e in
-    subst (Gives (Ok u) t) found.0 (u, (refl, found.1))
-
--- a cause says that the step isn't to the next state
-not_led : (r : Result (Registers ℕ) StepFault) (t : Registers ℕ) (cause : RowCause) → Gives r t cause → r ≡ Ok t → ⊥
-not_led r t (causes.Fault fault) gives leads = ok_or_err t fault (sym leads ∙ gives)
-not_led r t causes.Next gives leads = gives.1.1 (ok_is gives.0 t (sym gives.1.0 ∙ leads))
-
--- one pair of states has one cause
-one_given : (r : Result (Registers ℕ) StepFault) (t : Registers ℕ) (c d : RowCause) → Gives r t c → Gives r t d → c ≡ d
-one_given r t (causes.Fault f) (causes.Fault g) a b = ap causes.Fault (err_is f g (sym a ∙ b))
-one_given r t (causes.Fault f) causes.Next a b = ok_or_err b.0 f (sym b.1.0 ∙ a)
-one_given r t causes.Next (causes.Fault g) a b = ok_or_err a.0 g (sym a.1.0 ∙ b)
-one_given r t causes.Next causes.Next a b = refl
+differs false u t cause is e = (
+  some_is causes.Next cause e,
+  λ same.
+      let self : same_registers u t ≡ true = ap (λ (s : Registers ℕ). same_registers s t) same ∙ same_self t in
+      absurd (cc),
+)
 
 module _ (cells : List FieldCell) where
   abbrev outcome : Registers ℕ → Result (Registers ℕ) StepFault
   outcome s = next field_arithmetic (cell_at cells) s
 
-  stops_by : (s t : Registers ℕ) (cause : RowCause) → Gives (outcome s) t cause → StopsBy cells s t cause
-  stops_by s t (causes.Fault fault) gives = gives
-  stops_by s t causes.Next gives = gives
+  stopped : (s t : Registers ℕ) (r : Result (Registers ℕ) StepFault) (cause : RowCause) → outcome s ≡ r → cause_of r t ≡ Some cause → StopsBy cells s t cause
+  stopped s t (Err fault) cause gives e = subst (StopsBy cells s t) (some_is (causes.Fault fault) cause e) gives
+  stopped s t (Ok u) cause gives e =
+      let found = differs (same_registers u t) u t cause refl e in
+      subst (StopsBy cells s t) found.0 (u, (gives, found.1))
 
-  gives_by : (s t : Registers ℕ) (cause : RowCause) → StopsBy cells s t cause → Gives (outcome s) t cause
-  gives_by s t (causes.Fault fault) stops = stops
-  gives_by s t causes.Next stops = stops
+  -- a cause says that the step isn't to the next state
+  not_led : (s t : Registers ℕ) (cause : RowCause) → StopsBy cells s t cause → outcome s ≡ Ok t → ⊥
+  not_led s t (causes.Fault fault) stops leads = no_fault t fault (sym leads ∙ stops)
+  not_led s t causes.Next stops leads = stops.1.1 (ok_same stops.0 t (sym stops.1.0 ∙ leads))
+
+  -- one pair of states has one cause
+  one_stop : (s t : Registers ℕ) (c d : RowCause) → StopsBy cells s t c → StopsBy cells s t d → c ≡ d
+  one_stop s t (causes.Fault f) (causes.Fault g) a b = ap causes.Fault (err_is f g (sym a ∙ b))
+  one_stop s t (causes.Fault f) causes.Next a b = absurd (no_fault b.0 f (sym b.1.0 ∙ a))
+  one_stop s t causes.Next (causes.Fault g) a b = absurd (no_fault a.0 g (sym a.1.0 ∙ b))
+  one_stop s t causes.Next causes.Next a b = refl
 
   -- ---- a list of states and one more in front
 
@@ -125,8 +105,8 @@ module _ (cells : List FieldCell) where
     pub first : IsFirstStop states n
     pub why : IsRowCause cells states n cause
 
-  stop_here : (s t : Registers ℕ) (ts : List (Registers ℕ)) (number : ℕ) (fault : RunFault) (cause : RowCause) → Gives (outcome s) t cause → faults.Row number cause ≡ fault → Stop (s ∷ t ∷ ts) number fault
-  stop_here s t ts number fault cause gives is =
+  stop_here : (s t : Registers ℕ) (ts : List (Registers ℕ)) (number : ℕ) (fault : RunFault) (cause : RowCause) → StopsBy cells s t cause → faults.Row number cause ≡ fault → Stop (s ∷ t ∷ ts) number fault
+  stop_here s t ts number fault cause stops is =
       let same : number + 0 ≡ number = omega arith in
       record {
         n = 0;
@@ -137,10 +117,10 @@ module _ (cells : List FieldCell) where
           fails = λ leads.
               let from : s ≡ leads.state = one_state (s ∷ t ∷ ts) 0 s leads.state refl leads.is_state in
               let to : leads.after ≡ t = one_state (s ∷ t ∷ ts) 1 leads.after t leads.is_after refl in
-              not_led (outcome s) t cause gives (ap outcome from ∙ leads.steps ∙ ap (λ (u : Registers ℕ). Ok u) to);
+              not_led s t cause stops (ap outcome from ∙ leads.steps ∙ ap (λ (u : Registers ℕ). Ok u) to);
           before = λ k lt. absurd (omega (arith, lt));
         };
-        why = record { state = s; after = t; is_state = refl; is_after = refl; stops = stops_by s t cause gives };
+        why = record { state = s; after = t; is_state = refl; is_after = refl; stops = stops };
       }
 
   no_stop : (s t : Registers ℕ) → cause_of (outcome s) t ≡ None → outcome s ≡ Ok t
@@ -169,7 +149,7 @@ module _ (cells : List FieldCell) where
   stop_is number s [] fault found = absurd (cc)
   stop_is number s (t ∷ ts) fault found =
       first_some (option_map (faults.Row number) (cause_of (outcome s) t)) (row_fault (cell_at cells) (number + 1) t ts) fault found
-      (λ here. map_some (faults.Row number) (cause_of (outcome s) t) fault here (λ cause caused is. stop_here s t ts number fault cause (given (outcome s) t cause caused) is))
+      (λ here. map_some (faults.Row number) (cause_of (outcome s) t) fault here (λ cause caused is. stop_here s t ts number fault cause (stopped s t (outcome s) cause refl caused) is))
       (λ none later. stop_later s t ts number fault (no_stop s t (map_none (faults.Row number) (cause_of (outcome s) t) none)) (stop_is (number + 1) t ts fault later))
 
   -- two causes of one state are the same
@@ -177,5 +157,5 @@ module _ (cells : List FieldCell) where
   one_row_cause states n c d is other =
       let from : other.state ≡ is.state = one_state states n other.state is.state other.is_state is.is_state in
       let to : other.after ≡ is.after = one_state states (n + 1) other.after is.after other.is_after is.is_after in
-      one_given (outcome is.state) is.after c d (gives_by is.state is.after c is.stops)
-      (subst (λ (s : Registers ℕ). Gives (outcome s) is.after d) from (subst (λ (t : Registers ℕ). Gives (outcome other.state) t d) to (gives_by other.state other.after d other.stops)))
+      one_stop is.state is.after c d is.stops
+      (subst (λ (s : Registers ℕ). StopsBy cells s is.after d) from (subst (λ (t : Registers ℕ). StopsBy cells other.state t d) to other.stops))

@@ -1,67 +1,36 @@
 -- The spans: the tests of their cells decide what is asked of them, so the first that fails is the least that isn't good.
-use Rattle.std.proofs.Common.{◌≡◌, ℕ, zero, suc, ◌+◌, ◌-◌, ◌*◌, ◌<◌, ◌≤◌, Bool, true, false, List, [], ◌∷◌, length, slice_index, Option, Some, None, is_some, option_map, Decides, refl, sym, ap, subst, ◌∙◌, arith}
-use Rattle.std.specs.Prelude.{option_and_then}
+use Rattle.std.proofs.Common.{◌≡◌, ℕ, ◌+◌, ◌-◌, ◌*◌, ◌<◌, true, false, List, Option, Some, None, is_some, Decides, ap, ◌∙◌, arith}
 use Rattle.std.specs.Option.{option_map_or}
-use Rattle.std.proofs.lemmas.Bool.{and_from, and_parts, le-leb, leb-true, lt-ltb, ltb-true}
-use Rattle.builtin_hash.specs.Instances.{IsInstance}
-use Rattle.builtin_range.specs.Ranges.{IsRangeCell, range_limit}
+use Rattle.std.proofs.lemmas.Bool.{and_from, and_parts, le-leb, leb-true}
+use Rattle.builtin_range.specs.Ranges.{IsRangeCell}
 use Rattle.cairo_model.specs.Certificates.{CertRecord, SpanRecord}
 use Rattle.cairo_model.specs.FieldMemories.{FieldCell, cell_at}
 use Rattle.cairo_model.specs.FirstFailing.{IsFirstFailing}
 use Rattle.shared_prover_cli.specs.FaultCauses.{HasInstance, HasRangeCell, IsInSpan, IsThere}
 use Rattle.shared_prover_cli.specs.SpanFaults.{absent_in, group_count, has_cell, has_instance, has_range_cell, hash_fault, is_in_range, is_instance, numbers_from, range_fault}
 use Rattle.shared_prover_cli.proofs.FirstBad.{each_good, first_is}
-use Rattle.shared_prover_cli.proofs.InstanceLaws.{decides_instance, groups, numbers_told}
+use Rattle.shared_prover_cli.proofs.InstanceLaws.{decides_instance, groups, numbers_stand, numbers_told, tested_is, tested_there}
+use Rattle.shared_prover_cli.proofs.SpanLaws.{in_range_is, in_range_there, is_in_range_from, is_there, some_value}
 
 -- ---- one cell
 
-there : (o : Option ℕ) → is_some o ≡ true → IsThere o
-there None e = absurd (cc)
-there (Some n) e = (n, refl)
-
 pub decides_there : (o : Option ℕ) → Decides (is_some o) (IsThere o)
-decides_there o = (there o, λ found. ap is_some found.1)
-
-fits : (o : Option ℕ) → is_in_range o ≡ true → (n : ℕ) × ((o ≡ Some n) × IsRangeCell n)
-fits None e = absurd (cc)
-fits (Some n) e = (n, (refl, ltb-true n range_limit e))
+decides_there o = (λ e. some_value o e (λ n is. (n, is)), λ found. is_there o found.0 found.1)
 
 decides_fits : (o : Option ℕ) → Decides (is_in_range o) ((n : ℕ) × ((o ≡ Some n) × IsRangeCell n))
-decides_fits o = (fits o, λ found. ap is_in_range found.1.0 ∙ lt-ltb found.0 range_limit found.1.1)
+decides_fits o = (λ e. some_value o (in_range_there o e) (λ n is. (n, (is, in_range_is o n is e))), λ found. is_in_range_from o found.0 found.1.0 found.1.1)
 
 -- ---- twenty cells
-
-one_more : {R : Type 0} (o : Option ℕ) (p : Option (List ℕ)) (numbers : List ℕ) → option_and_then (λ v. option_map (λ rest. v ∷ rest) p) o ≡ Some numbers
-    → ((v : ℕ) (rest : List ℕ) → o ≡ Some v → p ≡ Some rest → v ∷ rest ≡ numbers → R) → R
-one_more None p numbers e go = absurd (cc)
-one_more (Some v) None numbers e go = absurd (cc)
-one_more (Some v) (Some rest) numbers e go = go v rest refl refl (cc)
-
-numbers_stand : (cells : List FieldCell) (a n : ℕ) (numbers : List ℕ) → numbers_from cells a n ≡ Some numbers → (k : ℕ) → k < n → cell_at cells (a + k) ≡ Some (slice_index numbers k)
-unfolding numbers_from
-numbers_stand cells a zero numbers e k lt = absurd (omega arith)
-numbers_stand cells a (suc n) numbers e zero lt =
-    let same : a + 0 ≡ a = omega arith in
-    one_more (cell_at cells a) (numbers_from cells (a + 1) n) numbers e (λ v rest is_first is_rest is.
-    ap (cell_at cells) same ∙ is_first ∙ ap (λ (ns : List ℕ). Some (slice_index ns 0)) is)
-numbers_stand cells a (suc n) numbers e (suc k) lt =
-    let moved : a + suc k ≡ (a + 1) + k = omega arith in
-    one_more (cell_at cells a) (numbers_from cells (a + 1) n) numbers e (λ v rest is_first is_rest is.
-    ap (cell_at cells) moved ∙ numbers_stand cells (a + 1) n rest is_rest k (omega arith) ∙ ap (λ (ns : List ℕ). Some (slice_index ns (suc k))) is)
-
-tested : {R : Type 0} (o : Option (List ℕ)) → option_map_or is_instance o false ≡ true → ((numbers : List ℕ) → o ≡ Some numbers → is_instance numbers ≡ true → R) → R
-tested None e go = absurd (cc)
-tested (Some numbers) e go = go numbers refl e
 
 module _ (cells : List FieldCell) (start stop i : ℕ) where
   stands : has_instance cells start stop i ≡ true → HasInstance cells stop (start + 20 * i)
   stands good =
       let parts = and_parts _ _ good in
-      tested (numbers_from cells (start + 20 * i) 20) parts.1 (λ numbers read is. record {
+      some_value (numbers_from cells (start + 20 * i) 20) (tested_there _ parts.1) (λ numbers read. record {
         numbers = numbers;
         below = leb-true (start + 20 * i + 20) stop parts.0;
         holds = numbers_stand cells (start + 20 * i) 20 numbers read;
-        is_instance = (decides_instance numbers).0 is;
+        is_instance = (decides_instance numbers).0 (tested_is _ numbers read parts.1);
       })
 
   is_found : HasInstance cells stop (start + 20 * i) → has_instance cells start stop i ≡ true
