@@ -48,7 +48,7 @@ pub record KeepsStartRule (cert : CertRecord) (k : ℕ) : Type 0 where
   pub has_caller : k ≡ 5 → IsThere (cell_below cert.cells first.fp 2)
   pub has_return : k ≡ 6 → IsThere (cell_below cert.cells first.fp 1)
 
--- The rules of the end by their numbers, from 1 on. Where there is no state none of them is the least, since rule 0 isn't kept.
+-- The rules of the end by their numbers, from 1 on. Rule 0 is again that there is a state: without one no fault of the end applies.
 pub record KeepsEndRule (cert : CertRecord) (k : ℕ) : Type 0 where
   pub first : Registers ℕ
   pub last : Registers ℕ
