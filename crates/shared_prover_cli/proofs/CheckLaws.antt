@@ -14,11 +14,12 @@ use Rattle.shared_prover_cli.specs.declared.run_fault.RowCause.TheVariants as ca
 use Rattle.shared_prover_cli.specs.declared.run_fault.RunFault.{RunFault}
 use Rattle.shared_prover_cli.specs.declared.run_fault.RunFault.TheVariants as faults
 use Rattle.shared_prover_cli.proofs.InstanceLaws.{instances_are, instances_there, no_hash_fault}
+use Rattle.shared_prover_cli.proofs.OrElse.{first_none, map_none}
 use Rattle.shared_prover_cli.proofs.SpanLaws.{is_there, no_output_absent, no_range_fault, outputs_there, range_fits, range_there}
 
 -- ---- lists of tests
 
-abbrev AllTrue : List Bool → Type 0
+abbrev pub AllTrue : List Bool → Type 0
 AllTrue [] = Unit {0}
 AllTrue (b ∷ bs) = (b ≡ true) × AllTrue bs
 
@@ -34,7 +35,7 @@ all_pass [] none = tt
 all_pass (true ∷ bs) none = (refl, all_pass bs (grind (arith, nat_tests, none)))
 all_pass (false ∷ bs) none = absurd (grind (arith, nat_tests, none))
 
-none_failing : (tests : List Bool) → first_failing tests ≡ None → AllTrue tests
+pub none_failing : (tests : List Bool) → first_failing tests ≡ None → AllTrue tests
 none_failing tests none = all_pass tests (none_is_past (nat_lt (position_or_len not tests) (length tests)) (position_or_len not tests) none)
 
 whole_length : (tests : List Bool) → AllTrue tests → prefix_len (λ x. not (not x)) tests ≡ length tests
@@ -48,23 +49,15 @@ nothing_failing tests all =
     let past : nat_lt (position_or_len not tests) (length tests) ≡ false = grind (arith, nat_tests, same) in
     rw past refl
 
--- ---- options
+-- ---- cells
 
-map_none : {A B : Type 0} (f : A → B) (o : Option A) → option_map f o ≡ None → o ≡ None
-map_none f None e = refl
-map_none f (Some x) e = absurd (cc)
-
-first_none : {A R : Type 0} (o p : Option A) → or_else o p ≡ None → (o ≡ None → p ≡ None → R) → R
-first_none None p e go = go refl e
-first_none (Some x) p e go = absurd (cc)
-
-holds_is : (o : Option ℕ) (n : ℕ) → holds o n ≡ true → o ≡ Some n
+pub holds_is : (o : Option ℕ) (n : ℕ) → holds o n ≡ true → o ≡ Some n
 holds_is None n e = absurd (cc)
 holds_is (Some m) n e =
     let same : m ≡ n = grind (arith, nat_tests, e) in
     ap Some same
 
-is_held : (o : Option ℕ) (n : ℕ) → o ≡ Some n → holds o n ≡ true
+pub is_held : (o : Option ℕ) (n : ℕ) → o ≡ Some n → holds o n ≡ true
 is_held o n e = rw e (grind (arith, nat_tests))
 
 -- ---- rows
@@ -78,7 +71,7 @@ same_is u t e =
     ∙ ap (λ (x : ℕ). let s : Registers ℕ = record { pc = t.pc; ap = x; fp = u.fp } in s) ap_
     ∙ ap (λ (x : ℕ). let s : Registers ℕ = record { pc = t.pc; ap = t.ap; fp = x } in s) fp
 
-same_self : (t : Registers ℕ) → same_registers t t ≡ true
+pub same_self : (t : Registers ℕ) → same_registers t t ≡ true
 same_self t = grind (arith, nat_tests)
 
 abbrev led_to : Registers ℕ → Result (Registers ℕ) StepFault
@@ -88,11 +81,11 @@ same_told : (b : Bool) (u t : Registers ℕ) (cause : RowCause) → same_registe
 same_told true u t cause is none = same_is u t is
 same_told false u t cause is none = absurd (cc)
 
-no_cause : (r : Result (Registers ℕ) StepFault) (t : Registers ℕ) → cause_of r t ≡ None → r ≡ Ok t
+pub no_cause : (r : Result (Registers ℕ) StepFault) (t : Registers ℕ) → cause_of r t ≡ None → r ≡ Ok t
 no_cause (Err d) t e = absurd (cc)
 no_cause (Ok u) t e = ap led_to (same_told (same_registers u t) u t causes.Next refl e)
 
-rows_run : (m : ℕ → Option ℕ) (n : ℕ) (s : Registers ℕ) (ts : List (Registers ℕ)) → row_fault m n s ts ≡ None → RunFrom field_arithmetic m s ts
+pub rows_run : (m : ℕ → Option ℕ) (n : ℕ) (s : Registers ℕ) (ts : List (Registers ℕ)) → row_fault m n s ts ≡ None → RunFrom field_arithmetic m s ts
 rows_run m n s [] none = tt
 rows_run m n s (t ∷ ts) none = first_none _ _ none (λ here rest. (no_cause (next field_arithmetic m s) t (map_none _ _ here), rows_run m (n + 1) t ts rest))
 

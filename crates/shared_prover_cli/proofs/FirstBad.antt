@@ -1,5 +1,7 @@
 -- The first index at which a test fails.
-use Rattle.std.proofs.Common.{◌≡◌, ℕ, zero, suc, ◌+◌, ◌-◌, ◌<◌, ◌≤◌, Bool, true, false, cond, Option, Some, None, refl, ap, ◌∙◌, arith}
+use Rattle.std.proofs.Common.{◌≡◌, ℕ, zero, suc, ◌+◌, ◌-◌, ◌<◌, ◌≤◌, Bool, true, false, cond, Option, Some, None, Decides, inl, inr, refl, ap, ◌∙◌, arith}
+use Rattle.std.proofs.lemmas.Bool.{cases_lt}
+use Rattle.cairo_model.specs.FirstFailing.{IsFirstFailing}
 use Rattle.shared_prover_cli.specs.SpanFaults.{first_bad}
 
 passed : (b : Bool) (o : Option ℕ) (i : ℕ) → cond b o (Some i) ≡ None → (b ≡ true) × (o ≡ None)
@@ -77,3 +79,56 @@ pub at_distance : (test : ℕ → Bool) (start address : ℕ) (b : Bool) → sta
 at_distance test start address b above is =
     let same : start + (address - start) ≡ address = omega arith in
     ap test same ∙ is
+
+-- ---- as the least index at which something fails
+
+bad_here : {R : Type 0} (b : Bool) (o : Option ℕ) (i k : ℕ) → cond b o (Some i) ≡ Some k → (b ≡ true → o ≡ Some k → R) → (b ≡ false → i ≡ k → R) → R
+bad_here true o i k e later here = later refl e
+bad_here false o i k e later here = here refl (cc)
+
+at_index : (test : ℕ → Bool) (b : Bool) (j i : ℕ) → j ≡ i → test i ≡ b → test j ≡ b
+at_index test b j i same is = ap test same ∙ is
+
+-- the first bad one of so many indices from i on
+record BadAt (test : ℕ → Bool) (i n k : ℕ) : Type 0 where
+  above : i ≤ k
+  below : k < i + n
+  bad : test k ≡ false
+  before : (j : ℕ) → i ≤ j → j < k → test j ≡ true
+
+bad_from : (test : ℕ → Bool) (i n k : ℕ) → first_bad test i n ≡ Some k → BadAt test i n k
+bad_from test i zero k found = absurd (cc)
+bad_from test i (suc n) k found = bad_here (test i) (first_bad test (i + 1) n) i k found
+    (λ good rest.
+    let later = bad_from test (i + 1) n k rest in
+    record {
+      above = omega (arith, later.above);
+      below = omega (arith, later.below);
+      bad = later.bad;
+      before = λ j above below. elim (cases_lt i j) [
+        | inl past ↦ later.before j (omega (arith, past)) below
+        | inr here ↦ at_index test true j i (omega (arith, above, here)) good
+      ];
+    })
+    (λ bad same. record {
+      above = omega (arith, same);
+      below = omega (arith, same);
+      bad = at_index test false k i (omega (arith, same)) bad;
+      before = λ j above below. absurd (omega (arith, above, below, same));
+    })
+
+-- where a test that decides it fails, something does not hold
+not_good : (b : Bool) (Good : Type 0) → Decides b Good → b ≡ false → ¬ Good
+not_good b Good decides bad good = absurd (let passes = decides.1 good in cc)
+
+-- The first bad index is the least inside that isn't good, where the test decides what is good.
+pub first_is : (test : ℕ → Bool) (Inside Good : ℕ → Type 0) (n : ℕ) → ((k : ℕ) → k < n → Decides (test k) (Good k)) → ((k : ℕ) → k < n → Inside k)
+    → (i : ℕ) → first_bad test 0 n ≡ Some i → IsFirstFailing Inside Good i
+first_is test Inside Good n decides inside i found =
+    let at = bad_from test 0 n i found in
+    let below : i < n = omega (arith, at.below) in
+    record {
+      inside = inside i below;
+      fails = not_good (test i) (Good i) (decides i below) at.bad;
+      before = λ k lt. (decides k (omega (arith, lt, below))).0 (at.before k (omega arith) lt);
+    }

@@ -15,24 +15,31 @@ use Rattle.cairo_model.specs.BuiltinCells.{AreInstances}
 use Rattle.cairo_model.specs.MachineAcceptance.{SpanHolds}
 use Rattle.shared_prover_cli.specs.SpanFaults.{first_bad, group_count, has_instance, is_instance, numbers_from}
 use Rattle.shared_prover_cli.proofs.FirstBad.{each_good, none_bad}
-use Rattle.shared_prover_cli.proofs.SpanLaws.{Present, present}
+use Rattle.shared_prover_cli.proofs.SpanLaws.{Present, is_there, present, some_value}
 
 -- ---- the numbers of some cells in a row
 
-both_there : (o : Option ℕ) (p : Option (List ℕ)) → is_some (option_and_then (λ v. option_map (λ rest. v ∷ rest) p) o) ≡ true → (is_some o ≡ true) × (is_some p ≡ true)
-both_there None p e = absurd (cc)
-both_there (Some v) None e = absurd (cc)
-both_there (Some v) (Some vs) e = (refl, refl)
+one_more : {R : Type 0} (o : Option ℕ) (p : Option (List ℕ)) (numbers : List ℕ) → option_and_then (λ v. option_map (λ rest. v ∷ rest) p) o ≡ Some numbers
+    → ((v : ℕ) (rest : List ℕ) → o ≡ Some v → p ≡ Some rest → v ∷ rest ≡ numbers → R) → R
+one_more None p numbers e go = absurd (cc)
+one_more (Some v) None numbers e go = absurd (cc)
+one_more (Some v) (Some rest) numbers e go = go v rest refl refl (cc)
+
+-- each of the numbers stands in its cell
+pub numbers_stand : (cells : List FieldCell) (a n : ℕ) (numbers : List ℕ) → numbers_from cells a n ≡ Some numbers → (k : ℕ) → k < n → cell_at cells (a + k) ≡ Some (slice_index numbers k)
+unfolding numbers_from
+numbers_stand cells a zero numbers e k lt = absurd (omega arith)
+numbers_stand cells a (suc n) numbers e zero lt =
+    let same : a + 0 ≡ a = omega arith in
+    one_more (cell_at cells a) (numbers_from cells (a + 1) n) numbers e (λ v rest is_first is_rest is.
+    ap (cell_at cells) same ∙ is_first ∙ ap (λ (ns : List ℕ). Some (slice_index ns 0)) is)
+numbers_stand cells a (suc n) numbers e (suc k) lt =
+    let moved : a + suc k ≡ (a + 1) + k = omega arith in
+    one_more (cell_at cells a) (numbers_from cells (a + 1) n) numbers e (λ v rest is_first is_rest is.
+    ap (cell_at cells) moved ∙ numbers_stand cells (a + 1) n rest is_rest k (omega arith) ∙ ap (λ (ns : List ℕ). Some (slice_index ns (suc k))) is)
 
 numbers_there : (cells : List FieldCell) (a n : ℕ) → is_some (numbers_from cells a n) ≡ true → (k : ℕ) → k < n → is_some (cell_at cells (a + k)) ≡ true
-unfolding numbers_from
-numbers_there cells a zero there k lt = absurd (omega arith)
-numbers_there cells a (suc n) there zero lt =
-    let same : a + 0 ≡ a = omega arith in
-    ap (λ (x : ℕ). is_some (cell_at cells x)) same ∙ (both_there (cell_at cells a) (numbers_from cells (a + 1) n) there).0
-numbers_there cells a (suc n) there (suc k) lt =
-    let moved : a + suc k ≡ (a + 1) + k = omega arith in
-    ap (λ (x : ℕ). is_some (cell_at cells x)) moved ∙ numbers_there cells (a + 1) n (both_there (cell_at cells a) (numbers_from cells (a + 1) n) there).1 k (omega arith)
+numbers_there cells a n there k lt = some_value (numbers_from cells a n) there (λ numbers read. is_there (cell_at cells (a + k)) (slice_index numbers k) (numbers_stand cells a n numbers read k lt))
 
 numbers_are : (cells : List FieldCell) (a : ℕ) (numbers : List ℕ) → ((k : ℕ) → k < length numbers → cell_at cells (a + k) ≡ Some (slice_index numbers k)) → numbers_from cells a (length numbers) ≡ Some numbers
 unfolding numbers_from
@@ -105,18 +112,18 @@ decides_instance numbers = (is_an_instance numbers, instance_is_one numbers)
 
 -- ---- the groups of a span
 
-tested_there : (o : Option (List ℕ)) → option_map_or is_instance o false ≡ true → is_some o ≡ true
+pub tested_there : (o : Option (List ℕ)) → option_map_or is_instance o false ≡ true → is_some o ≡ true
 tested_there None e = absurd (cc)
 tested_there (Some numbers) e = refl
 
-tested_is : (o : Option (List ℕ)) (numbers : List ℕ) → o ≡ Some numbers → option_map_or is_instance o false ≡ true → is_instance numbers ≡ true
+pub tested_is : (o : Option (List ℕ)) (numbers : List ℕ) → o ≡ Some numbers → option_map_or is_instance o false ≡ true → is_instance numbers ≡ true
 tested_is o numbers is e = ap (λ (p : Option (List ℕ)). option_map_or is_instance p false) (sym is) ∙ e
 
-record Groups (n : ℕ) : Type 0 where
-  least : n ≤ 20 * ((n + 19) / 20)
-  most : 20 * ((n + 19) / 20) ≤ n + 19
+pub record Groups (n : ℕ) : Type 0 where
+  pub least : n ≤ 20 * ((n + 19) / 20)
+  pub most : 20 * ((n + 19) / 20) ≤ n + 19
 
-groups : (n : ℕ) → Groups n
+pub groups : (n : ℕ) → Groups n
 groups n =
     let below : (n + 19) % 20 < 20 = mod-lt (n + 19) (lit< tt) in
     let whole = div-add-mod (n + 19) 20 in

@@ -1,8 +1,13 @@
 mod FirstBad
+mod FrameCauses
 mod InstanceLaws
 mod KeptBytes
+mod OrElse
+mod RowCauses
+mod SpanCauses
 mod SpanLaws
 mod WordLemmas
 pub mod CheckLemmas
 pub mod CheckLaws
+pub mod FaultLaws
 pub mod VerdictStatus

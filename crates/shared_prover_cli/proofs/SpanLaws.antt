@@ -18,7 +18,7 @@ pub record Present (cells : List FieldCell) (start n : ℕ) : Type 0 where
   pub count : length list ≡ n
   pub each : (k : ℕ) → k < n → cell_at cells (start + k) ≡ Some (slice_index list k)
 
-some_value : {R : Type 0} (o : Option ℕ) → is_some o ≡ true → ((v : ℕ) → o ≡ Some v → R) → R
+pub some_value : {A R : Type 0} (o : Option A) → is_some o ≡ true → ((v : A) → o ≡ Some v → R) → R
 some_value None e go = absurd (cc)
 some_value (Some v) e go = go v refl
 
@@ -38,8 +38,8 @@ present cells start (suc n) there =
     at_each v is rest zero lt = is
     at_each v is rest (suc k) lt = let moved : start + suc k ≡ (start + 1) + k = omega arith in ap (cell_at cells) moved ∙ rest.each k (omega arith)
 
-pub is_there : (o : Option ℕ) (n : ℕ) → o ≡ Some n → is_some o ≡ true
-is_there o n e = rw e refl
+pub is_there : {A : Type 0} (o : Option A) (x : A) → o ≡ Some x → is_some o ≡ true
+is_there o x e = rw e refl
 
 -- ---- outputs
 
@@ -51,14 +51,14 @@ no_output_absent cells span numbers holds = none_bad (has_cell cells span.start)
 
 -- ---- range cells
 
-in_range_there : (o : Option ℕ) → is_in_range o ≡ true → is_some o ≡ true
+pub in_range_there : (o : Option ℕ) → is_in_range o ≡ true → is_some o ≡ true
 in_range_there None e = absurd (cc)
 in_range_there (Some n) e = refl
 
-in_range_is : (o : Option ℕ) (n : ℕ) → o ≡ Some n → is_in_range o ≡ true → IsRangeCell n
+pub in_range_is : (o : Option ℕ) (n : ℕ) → o ≡ Some n → is_in_range o ≡ true → IsRangeCell n
 in_range_is o n is e = ltb-true n range_limit (ap is_in_range (sym is) ∙ e)
 
-is_in_range_from : (o : Option ℕ) (n : ℕ) → o ≡ Some n → IsRangeCell n → is_in_range o ≡ true
+pub is_in_range_from : (o : Option ℕ) (n : ℕ) → o ≡ Some n → IsRangeCell n → is_in_range o ≡ true
 is_in_range_from o n is fits = ap is_in_range is ∙ lt-ltb n range_limit fits
 
 pub range_there : (cells : List FieldCell) (start n : ℕ) → first_bad (has_range_cell cells start) 0 n ≡ None → Present cells start n

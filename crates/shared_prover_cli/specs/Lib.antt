@@ -3,6 +3,7 @@ pub mod CheckAnswers
 pub mod CheckTexts
 pub mod Commands
 pub mod Exits
+pub mod FaultCauses
 pub mod Faults
 pub mod MemoryStreams
 pub mod Numerals

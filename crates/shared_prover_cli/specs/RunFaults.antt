@@ -1,4 +1,5 @@
--- What is wrong with the certificate of a PIE alone: the first fault in order (docs/CERTIFICATE.md).
+-- The first fault of the certificate of a PIE alone, as the code computes it; FaultCauses says what it means, and
+-- `first_fault` in src/laws.rt that both are one.
 use Rattle.std.specs.Prelude.{ℕ, ◌+◌, ◌==◌, ◌&&◌, not, Bool, false, List, [], ◌∷◌, position, Option, Some, None, is_some, option_map, Result, Ok, Err, if◌then◌else◌}
 use Rattle.cairo_model.specs.Certificates.{CertRecord}
 use Rattle.cairo_model.specs.FieldMemories.{cell_at}

@@ -1,5 +1,5 @@
--- What is wrong with the spans of a certificate: the first index of each at which its cells are not what is asked of them
--- (docs/CERTIFICATE.md).
+-- The first index of each span of a certificate at which its cells are not what is asked of them, as the code computes it;
+-- FaultCauses says what it means.
 use Rattle.std.specs.Prelude.{ℕ, zero, suc, ◌+◌, ◌-◌, ◌*◌, ◌/◌, ◌^◌, ◌==◌, ◌&&◌, nat_lt, nat_le, Bool, false, List, [], ◌∷◌, length, Option, Some, None, is_some, option_map, option_and_then, if◌then◌else◌}
 use Rattle.std.specs.List.{list_all}
 use Rattle.std.specs.Option.{option_map_or}

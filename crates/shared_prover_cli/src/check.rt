@@ -1,9 +1,6 @@
-ghost use Rattle.std.specs.Prelude.{◌≡◌, ◌↔◌, ◌-◌, IfOk, IsTrue, None, length};
-ghost use Rattle.cairo_model.specs.Certificates.{CertRecord};
-ghost use Rattle.cairo_model.specs.MachineAcceptance.{MachineAccepts};
+ghost use Rattle.std.specs.Prelude.{◌≡◌, ◌↔◌, ◌-◌, IfOk, IsTrue, length};
 ghost use Rattle.shared_prover_cli.specs.Answers.{CheckLine, outcome_number};
 ghost use Rattle.shared_prover_cli.specs.CheckAnswers.{IsOfOnePie};
-ghost use Rattle.shared_prover_cli.specs.RunFaults.{fault_of};
 
 use crate::answer::{Answer, Outcome};
 use crate::check_texts::{accepted_line, certificate_line, fault_line, not_built_line};
@@ -55,8 +52,3 @@ fn is_of_one_pie(cert: &Cert) -> bool
 {
     matches!(cert.kind, Kind::Alone)
 }
-
-/// A certificate of a PIE alone has no fault exactly where the machine accepts it.
-pub fn faults_and_acceptance()
-    ensures { (cert : CertRecord) → IsOfOnePie cert → ((fault_of cert ≡ None) ↔ MachineAccepts cert) }
-{}

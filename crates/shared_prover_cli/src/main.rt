@@ -10,6 +10,7 @@ mod check_tests;
 mod check_texts;
 mod checking;
 mod command;
+mod laws;
 mod limits;
 mod memory;
 mod numerals;

@@ -7,6 +7,7 @@ use Rattle.shared_prover_cli.specs.CheckAnswers.{IsOfOnePie}
 use Rattle.shared_prover_cli.specs.CheckAnswers as check
 use Rattle.shared_prover_cli.specs.CheckTexts.{accepted_text}
 use Rattle.shared_prover_cli.proofs.CheckLaws.{accepted, has_state, not_accepted}
+use Rattle.shared_prover_cli.proofs.FaultLaws.{first_fault}
 use Rattle.shared_prover_cli.proofs.check.check_answer.Goals as goal
 
 -- the bytes are no certificate's
@@ -44,7 +45,7 @@ returns-in-Err-Refused-checked_outputs c =
     let found = c.in-Err-Refused-checked_outputs.ensures.fault fault (cc) in
     record {
       answer = check.faulty fault;
-      is_answer = (cert, (c.in-Ok.ensures.sound, (of_one, (found, not_accepted cert fault found))));
+      is_answer = (cert, (c.in-Ok.ensures.sound, (of_one, (first_fault cert fault found, not_accepted cert fault found))));
       has_status = c.refused-in-Err-Refused-checked_outputs.ensures.0;
       has_text = ap (λ (v : Vec ℕ Global). v.items) c.refused-in-Err-Refused-checked_outputs.ensures.1 ∙ c.in_ok-fault_line-in-Err-Refused-checked_outputs.ensures;
     }
