@@ -26,34 +26,34 @@ pub record DraftFits (c : CertRecord) : Type 0 where
 
 -- ---- the chain of the reading from its end
 
-abbrev cert_of : CertKind → SpanRecord → SpanRecord → SpanRecord → List MarkRecord → List FieldCell → List (Registers ℕ) → CertRecord
+abbrev pub cert_of : CertKind → SpanRecord → SpanRecord → SpanRecord → List MarkRecord → List FieldCell → List (Registers ℕ) → CertRecord
 cert_of k o r h t c s = record { kind = k; output = o; range = r; hash = h; tasks = t; cells = c; states = s }
 
-abbrev draft_of : CertRecord → ℕ → Draft
+abbrev pub draft_of : CertRecord → ℕ → Draft
 draft_of c n = record { cert = c; from_cells = n }
 
-abbrev with_states : CertKind → SpanRecord → SpanRecord → SpanRecord → List MarkRecord × List ℕ → List FieldCell → List (Registers ℕ) × List ℕ → Reads Draft
+abbrev pub with_states : CertKind → SpanRecord → SpanRecord → SpanRecord → List MarkRecord × List ℕ → List FieldCell → List (Registers ℕ) × List ℕ → Reads Draft
 with_states k o r h t c s = Ok (draft_of (cert_of k o r h t.0 c s.0) (length t.1 - 4), s.1)
 
-abbrev with_cells : ℕ → CertKind → SpanRecord → SpanRecord → SpanRecord → List MarkRecord × List ℕ → List FieldCell × List ℕ → Reads Draft
+abbrev pub with_cells : ℕ → CertKind → SpanRecord → SpanRecord → SpanRecord → List MarkRecord × List ℕ → List FieldCell × List ℕ → Reads Draft
 with_cells whole k o r h t c = list_at whole (state_at whole) c.1 >>= with_states k o r h t c.0
 
-abbrev with_tasks : ℕ → CertKind → SpanRecord → SpanRecord → SpanRecord → List MarkRecord × List ℕ → Reads Draft
+abbrev pub with_tasks : ℕ → CertKind → SpanRecord → SpanRecord → SpanRecord → List MarkRecord × List ℕ → Reads Draft
 with_tasks whole k o r h t = list_at whole (cell_at whole) t.1 >>= with_cells whole k o r h t
 
-abbrev with_count : ℕ → CertKind → SpanRecord → SpanRecord → SpanRecord → ℕ × List ℕ → Reads Draft
+abbrev pub with_count : ℕ → CertKind → SpanRecord → SpanRecord → SpanRecord → ℕ × List ℕ → Reads Draft
 with_count whole k o r h n = items_at (mark_at whole) n.0 n.1 >>= with_tasks whole k o r h
 
-abbrev with_hash : ℕ → CertKind → SpanRecord → SpanRecord → SpanRecord × List ℕ → Reads Draft
+abbrev pub with_hash : ℕ → CertKind → SpanRecord → SpanRecord → SpanRecord × List ℕ → Reads Draft
 with_hash whole k o r h = task_count_at whole k h.1 >>= with_count whole k o r h.0
 
-abbrev with_range : ℕ → CertKind → SpanRecord → SpanRecord × List ℕ → Reads Draft
+abbrev pub with_range : ℕ → CertKind → SpanRecord → SpanRecord × List ℕ → Reads Draft
 with_range whole k o r = span_at whole r.1 >>= with_hash whole k o r.0
 
-abbrev with_output : ℕ → CertKind → SpanRecord × List ℕ → Reads Draft
+abbrev pub with_output : ℕ → CertKind → SpanRecord × List ℕ → Reads Draft
 with_output whole k o = span_at whole o.1 >>= with_range whole k o.0
 
-abbrev with_kind : ℕ → CertKind × List ℕ → Reads Draft
+abbrev pub with_kind : ℕ → CertKind × List ℕ → Reads Draft
 with_kind whole k = span_at whole k.1 >>= with_output whole k.0
 
 -- ---- what is read

@@ -83,7 +83,7 @@ pub record IsWide (w : Width) (limit : ℕ) : Type 0 where
   pub again : (n : ℕ) → n < limit → from_be_bytes w (to_be_bytes w n) ≡ n
   pub below : (bytes : List ℕ) → IsBytes bytes → from_be_bytes w bytes < limit
 
-wide32 : IsWide w32 (2 ^ 32)
+pub wide32 : IsWide w32 (2 ^ 32)
 wide32 = record {
   len = λ n. refl;
   back = λ bytes len fits. be_bytes_4 bytes _ len fits refl;
@@ -91,7 +91,7 @@ wide32 = record {
   below = λ bytes fits. omega (arith, fits 0, fits 1, fits 2, fits 3);
 }
 
-wide64 : IsWide w64 (2 ^ 64)
+pub wide64 : IsWide w64 (2 ^ 64)
 wide64 = record {
   len = λ n. refl;
   back = λ bytes len fits. be_bytes_8 bytes _ len fits refl;
@@ -101,18 +101,18 @@ wide64 = record {
 
 -- the number that the first bytes are
 module _ (w : Width) (limit : ℕ) (wide : IsWide w limit) where
-  front_below : (bytes : List ℕ) → IsBytes bytes → from_be_bytes w (take (byte_len w) bytes) < limit
+  pub front_below : (bytes : List ℕ) → IsBytes bytes → from_be_bytes w (take (byte_len w) bytes) < limit
   front_below bytes fits = wide.below (take (byte_len w) bytes) (IsBytes-take (byte_len w) bytes fits)
 
-  front_takes : (bytes : List ℕ) → IsBytes bytes → byte_len w ≤ length bytes → Takes bytes (to_be_bytes w (from_be_bytes w (take (byte_len w) bytes))) (drop (byte_len w) bytes)
+  pub front_takes : (bytes : List ℕ) → IsBytes bytes → byte_len w ≤ length bytes → Takes bytes (to_be_bytes w (from_be_bytes w (take (byte_len w) bytes))) (drop (byte_len w) bytes)
   front_takes bytes fits long =
       let back : to_be_bytes w (from_be_bytes w (take (byte_len w) bytes)) ≡ take (byte_len w) bytes = wide.back (take (byte_len w) bytes) (omega (arith, length-take (byte_len w) bytes)) (IsBytes-take (byte_len w) bytes fits) in
       record { parts = rw back (sym (take-append-drop (byte_len w) bytes)); rest_fits = IsBytes-drop (byte_len w) bytes fits }
 
-  front_again : (n : ℕ) (rest : List ℕ) → n < limit → from_be_bytes w (take (byte_len w) (to_be_bytes w n ++ rest)) ≡ n
+  pub front_again : (n : ℕ) (rest : List ℕ) → n < limit → from_be_bytes w (take (byte_len w) (to_be_bytes w n ++ rest)) ≡ n
   front_again n rest lt = rw (take_at (to_be_bytes w n) rest (byte_len w) (wide.len n)) (wide.again n lt)
 
-  rest_again : (n : ℕ) (rest : List ℕ) → drop (byte_len w) (to_be_bytes w n ++ rest) ≡ rest
+  pub rest_again : (n : ℕ) (rest : List ℕ) → drop (byte_len w) (to_be_bytes w n ++ rest) ≡ rest
   rest_again n rest = drop_at (to_be_bytes w n) rest (byte_len w) (wide.len n)
 
 -- ---- four bytes
@@ -143,7 +143,7 @@ counted_field whole = record {
 number_parts : (bytes rest : List ℕ) (n : ℕ) → 8 ≤ length bytes → from_be_bytes w64 (take 8 bytes) ≡ n → drop 8 bytes ≡ rest → number_at bytes ≡ Some (n, rest)
 number_parts bytes rest n long is behind = rw (le-ltb (length bytes) 8 long, is, behind) refl
 
-number_again : (n : ℕ) (rest : List ℕ) → n < 2 ^ 64 → number_at (to_be_bytes w64 n ++ rest) ≡ Some (n, rest)
+pub number_again : (n : ℕ) (rest : List ℕ) → n < 2 ^ 64 → number_at (to_be_bytes w64 n ++ rest) ≡ Some (n, rest)
 number_again n rest lt =
     number_parts (to_be_bytes w64 n ++ rest) rest n (omega (arith, length-append (to_be_bytes w64 n) rest)) (front_again w64 (2 ^ 64) wide64 n rest lt) (rest_again w64 (2 ^ 64) wide64 n rest)
 

@@ -7,3 +7,6 @@ pub mod OrderLaws
 pub mod DraftLaws
 pub mod CertLaws
 pub mod TypeFacts
+pub mod EntryLaws
+pub mod Scanning
+pub mod PartsFound

@@ -21,7 +21,7 @@ marks_go_on count i bytes rest total lt h so_far =
 
 -- ---- what is spelled is there
 
-option_goes : {A B : Type 0} (f : A → Option B) (o : Option A) (x : A) (y : B) → o ≡ Some x → f x ≡ Some y → option_and_then f o ≡ Some y
+pub option_goes : {A B : Type 0} (f : A → Option B) (o : Option A) (x : A) (y : B) → o ≡ Some x → f x ≡ Some y → option_and_then f o ≡ Some y
 option_goes f o x y is rest = ap (option_and_then f) is ∙ rest
 
 pub after_again : (n : ℕ) (x rest : List ℕ) → length x ≡ n → after n (x ++ rest) ≡ Some rest
