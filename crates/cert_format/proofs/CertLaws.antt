@@ -62,26 +62,26 @@ is_in_order c h = record { output = h.output.ordered; range = h.range.ordered; h
 
 -- ---- the chain of the reading from its end
 
-abbrev ended : Draft × List ℕ → CertRecord → Result CertRecord CertRefusal
+abbrev pub ended : Draft × List ℕ → CertRecord → Result CertRecord CertRefusal
 ended x c = cond (eqb (length x.1) 0) (Ok c) (Err (Trailing (length x.1)))
 
-abbrev with_draft : ℕ → Draft × List ℕ → Result CertRecord CertRefusal
+abbrev pub with_draft : ℕ → Draft × List ℕ → Result CertRecord CertRefusal
 with_draft whole x = ordered (order_fault whole x.0) x.0.cert >>= ended x
 
-abbrev with_all : ℕ → List ℕ → List ℕ → Result CertRecord CertRefusal
+abbrev pub with_all : ℕ → List ℕ → List ℕ → Result CertRecord CertRefusal
 with_all whole body rest = draft_at whole body >>= with_draft whole
 
-abbrev with_body : ℕ → List ℕ → Result CertRecord CertRefusal
+abbrev pub with_body : ℕ → List ℕ → Result CertRecord CertRefusal
 with_body whole body = required (Truncated whole) (after_all body) >>= with_all whole body
 
-abbrev with_magic : List ℕ → Bool → Result CertRecord CertRefusal
+abbrev pub with_magic : List ℕ → Bool → Result CertRecord CertRefusal
 with_magic bytes b = required (Truncated (length bytes)) (after 8 bytes) >>= with_body (length bytes)
 
-demand_kept : {E R : Type 0} (e : E) (b c : Bool) → demanded e b ≡ Ok c → (b ≡ true → R) → R
+pub demand_kept : {E R : Type 0} (e : E) (b c : Bool) → demanded e b ≡ Ok c → (b ≡ true → R) → R
 demand_kept e true c h go = go refl
 demand_kept e false c h go = absurd (cc)
 
-order_kept : {A R : Type 0} (o : Option ℕ) (x y : A) → ordered o x ≡ Ok y → (o ≡ None → x ≡ y → R) → R
+pub order_kept : {A R : Type 0} (o : Option ℕ) (x y : A) → ordered o x ≡ Ok y → (o ≡ None → x ≡ y → R) → R
 order_kept None x y h go = go refl (ok_is x y h)
 order_kept (Some p) x y h go = absurd (cc)
 
@@ -147,7 +147,7 @@ pub is_found : (bytes : List ℕ) (r : Result CertRecord (End CertRefusal)) → 
 is_found bytes (Ok c) fits given = cert_takes bytes c fits given
 is_found bytes (Err e) fits given = tt
 
-no_ok : {A E : Type 0} (x : A) (e : E) → ◌≡◌ {A = Result A E} (Ok x) (Err e) → ⊥
+pub no_ok : {A E : Type 0} (x : A) (e : E) → ◌≡◌ {A = Result A E} (Ok x) (Err e) → ⊥
 no_ok x e h = absurd (cc)
 
 pub none_is_refused : (bytes : List ℕ) (r : Result CertRecord (End CertRefusal)) → Gives (λ c. c) r (reading bytes) → (e : CertRefusal) → r ≡ Err (Refused e) → (c : CertRecord) → CertBytes bytes c → ⊥

@@ -10,3 +10,6 @@ pub mod TypeFacts
 pub mod EntryLaws
 pub mod Scanning
 pub mod PartsFound
+pub mod Places
+pub mod MagicLaws
+pub mod Causes
