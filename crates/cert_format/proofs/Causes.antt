@@ -72,7 +72,7 @@ in_order (BadNumber place) = (omega arith, omega arith)
 in_order (Order place) = (omega arith, omega arith)
 in_order (Trailing k) = (omega arith, omega arith)
 
-clear_1 : (bytes : List ℕ) → Clear bytes 1
+pub clear_1 : (bytes : List ℕ) → Clear bytes 1
 clear_1 bytes other lt cause = absurd (omega (arith, lt, (in_order other).0))
 
 no_magic : (bytes : List ℕ) → ¬ IsCertCause bytes BadMagic → (r : CertRefusal) → refusal_number r ≡ 1 → ¬ IsCertCause bytes r
@@ -101,18 +101,18 @@ next bytes n clear none = firsts.none_below_next refusal_number (IsCertCause byt
 clear_2 : (bytes : List ℕ) → has_magic bytes ≡ true → Clear bytes 2
 clear_2 bytes begins = next bytes 1 (clear_1 bytes) (no_magic bytes (λ cause. cause.1.1.1 (same_bytes bytes begins cause.0 cause.1.0 cause.1.1.0)))
 
-same_first : (bytes : List ℕ) (r s : CertRefusal) → IsFirstCertCause bytes r → r ≡ s → IsFirstCertCause bytes s
+pub same_first : (bytes : List ℕ) (r s : CertRefusal) → IsFirstCertCause bytes r → r ≡ s → IsFirstCertCause bytes s
 same_first bytes r s h e = subst (λ (q : CertRefusal). IsFirstCertCause bytes q) e h
 
 -- ---- where something is missing
 
-too_short : (bytes : List ℕ) → has_magic bytes ≡ true → length bytes < 8 → IsFirstCertCause bytes (Truncated (length bytes))
+pub too_short : (bytes : List ℕ) → has_magic bytes ≡ true → length bytes < 8 → IsFirstCertCause bytes (Truncated (length bytes))
 too_short bytes begins short = record { applies = (refl, λ p r has. absurd (omega (arith, short, has.has_front))); none_before = clear_2 bytes begins }
 
 no_some : {A : Type 0} (x : A) → None ≡ Some x → ⊥
 no_some x e = absurd (cc)
 
-cut_short : (bytes : List ℕ) → has_magic bytes ≡ true → after_all (drop 8 bytes) ≡ None → IsFirstCertCause bytes (Truncated (length bytes))
+pub cut_short : (bytes : List ℕ) → has_magic bytes ≡ true → after_all (drop 8 bytes) ≡ None → IsFirstCertCause bytes (Truncated (length bytes))
 cut_short bytes begins none = record {
   applies = (refl, λ p r has. no_some r (sym none ∙ ap after_all has.spelled ∙ parts_skip.again p r (fit_of bytes p r has)));
   none_before = clear_2 bytes begins;
@@ -140,7 +140,7 @@ module _ (bytes rest : List ℕ) (fits : IsBytes bytes) (begins : has_magic byte
   read : draft_at (length bytes) (drop 8 bytes) ≡ scan (length bytes) (entries_of parts) rest (Ok (draft_in parts rest, rest))
   read = ap (draft_at (length bytes)) has.spelled ∙ draft_scans (length bytes) parts rest (fit_of bytes parts rest has)
 
-  bad_first : (r : CertRefusal) → draft_at (length bytes) (drop 8 bytes) ≡ Err r → IsFirstCertCause bytes r
+  pub bad_first : (r : CertRefusal) → draft_at (length bytes) (drop 8 bytes) ≡ Err r → IsFirstCertCause bytes r
   bad_first r e =
       let f : FirstBad (length bytes) (entries_of parts) rest r = scan_stops (length bytes) (entries_of parts) rest (draft_in parts rest, rest) r (sym read ∙ e) in
       let place = bad_place (length bytes) parts rest long r f in
@@ -168,7 +168,7 @@ module _ (bytes rest : List ℕ) (fits : IsBytes bytes) (begins : has_magic byte
     rest_is : length rest ≡ length x.1
     rest_is = ap (λ (y : Draft × List ℕ). length y.1) draft_is
 
-    order_first : (place : ℕ) → order_fault (length bytes) x.0 ≡ Some place → IsFirstCertCause bytes (Order place)
+    pub order_first : (place : ℕ) → order_fault (length bytes) x.0 ≡ Some place → IsFirstCertCause bytes (Order place)
     order_first place e = record {
       applies = record { parts = parts; rest = rest; has_parts = has; holds = order_least (length bytes) parts rest long place (fault_is ∙ e) };
       none_before = clear_4;
@@ -179,7 +179,7 @@ module _ (bytes rest : List ℕ) (fits : IsBytes bytes) (begins : has_magic byte
         let least : IsLeast (IsUnorderedAt parts) place = only bytes parts rest (λ p _. IsLeast (IsUnorderedAt p) place) has cause in
         none_unordered (length bytes) parts rest place (fault_is ∙ none) least.holds))
 
-    trailing_first : order_fault (length bytes) x.0 ≡ None → (length x.1 ≡ 0 → ⊥) → IsFirstCertCause bytes (Trailing (length x.1))
+    pub trailing_first : order_fault (length bytes) x.0 ≡ None → (length x.1 ≡ 0 → ⊥) → IsFirstCertCause bytes (Trailing (length x.1))
     trailing_first none some = record {
       applies = record { parts = parts; rest = rest; has_parts = has; holds = (sym rest_is, omega (arith, some)) };
       none_before = clear_5 none;
@@ -189,3 +189,6 @@ module _ (bytes rest : List ℕ) (fits : IsBytes bytes) (begins : has_magic byte
     clear_6 none end = next bytes 5 (clear_5 none) (no_trailing bytes (λ k cause.
         let other : (k ≡ length rest) × (0 < k) = only bytes parts rest (λ _ r. (k ≡ length r) × (0 < k)) has cause in
         absurd (omega (arith, other.0, other.1, rest_is, end))))
+
+    pub none_at_all : order_fault (length bytes) x.0 ≡ None → length x.1 ≡ 0 → (r : CertRefusal) → ¬ IsCertCause bytes r
+    none_at_all none end r = clear_6 none end r (in_order r).1

@@ -13,3 +13,4 @@ pub mod PartsFound
 pub mod Places
 pub mod MagicLaws
 pub mod Causes
+pub mod CauseLaws
