@@ -1,27 +1,21 @@
--- The laws of the causes: what is refused has its first cause, and a certificate has none.
-use Rattle.std.proofs.Common.{◌≡◌, ℕ, ◌+◌, ◌<◌, ◌≤◌, ◌⊎◌, Bool, true, false, ltb, eqb, List, [], ◌∷◌, ◌++◌, length, take, drop, Option, Some, None, Result, Ok, Err, refl, sym, ap, subst, ◌∙◌, arith, inl, inr, length-drop}
+-- Causes of refusals by their numbers: one after the other, that none applies, or that one does first.
+use Rattle.std.proofs.Common.{◌≡◌, ℕ, ◌+◌, ◌<◌, ◌≤◌, true, List, ◌++◌, length, drop, Some, None, Ok, Err, refl, sym, ap, subst, ◌∙◌, arith, length-drop}
 use Rattle.std.specs.List.{AllByRecursion}
-use Rattle.std.proofs.lemmas.Bool.{eqb-false, ltb-true, ltb-false}
 use Rattle.std.proofs.lemmas.List.Elements.{All-from_recursion, recursion_from_All}
 use Rattle.cairo_model.proofs.Firsts as firsts
-use Rattle.cairo_model.specs.Answers.{Gives}
-use Rattle.cairo_model.specs.Certificates.{CertRecord}
 use Rattle.cairo_model.specs.FirstFailing.{NoneBelow}
-use Rattle.cairo_model.specs.Machine.{◌>>=◌, required, demanded}
-use Rattle.cairo_model.specs.declared.end.End.{End}
-use Rattle.cairo_model.specs.declared.end.End.TheVariants.{Refused}
 use Rattle.cert_format.specs.declared.refusal.CertRefusal.{CertRefusal}
 use Rattle.cert_format.specs.declared.refusal.CertRefusal.TheVariants.{BadMagic, Truncated, BadNumber, Order, Trailing}
-use Rattle.cert_format.specs.Reading.{has_magic, after, after_all, Draft, draft_at, order_fault, ordered, reading}
-use Rattle.cert_format.specs.Spelling.{CertBytes}
+use Rattle.cert_format.specs.Reading.{has_magic, after_all, Draft, draft_at, order_fault}
 use Rattle.cert_format.specs.Refusals.{FitsBytes, IsGoodEntry, entries_bytes, Parts, entries_of, HasParts, PartsHave, IsLeast, IsBadAt, IsUnorderedAt, refusal_number, IsCertCause, IsFirstCertCause}
-use Rattle.cert_format.proofs.FieldLaws.{IsBytes, IsBytes-drop, bind_gives, required_is, else_gives, then_ok, some_is, ok_is}
+use Rattle.cert_format.proofs.FieldLaws.{IsBytes, IsBytes-drop, ok_is}
 use Rattle.cert_format.proofs.EntryLaws.{Fit}
-use Rattle.cert_format.proofs.CertLaws.{ended, with_draft, with_all, with_body, with_magic, demand_kept, order_kept, no_ok, cert_takes}
-use Rattle.cert_format.proofs.MagicLaws.{another_byte, same_bytes}
-use Rattle.cert_format.proofs.PartsFound.{Skipped, IsSkip, one_rest, parts_skip}
+use Rattle.cert_format.proofs.MagicLaws.{same_bytes}
+use Rattle.cert_format.proofs.PartsFound.{parts_skip}
+use Rattle.cert_format.proofs.Skips.{Skipped, one_rest}
 use Rattle.cert_format.proofs.Places.{one_least, bad_place, bad_is, bad_least, none_bad, order_least, none_unordered}
-use Rattle.cert_format.proofs.Scanning.{FirstBad, scan, draft_in, draft_scans, scan_goes, scan_passes, scan_stops, tested, err_is}
+use Rattle.cert_format.proofs.Scanning.{FirstBad, scan, scan_goes, scan_passes, scan_stops}
+use Rattle.cert_format.proofs.ReadersScan.{draft_in, draft_scans}
 
 -- ---- bytes have at most one row of parts
 

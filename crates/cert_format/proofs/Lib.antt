@@ -9,8 +9,12 @@ pub mod CertLaws
 pub mod TypeFacts
 pub mod EntryLaws
 pub mod Scanning
+pub mod ReadersScan
+pub mod Rows
+pub mod Skips
 pub mod PartsFound
 pub mod Places
 pub mod MagicLaws
 pub mod Causes
+pub mod ByteLaws
 pub mod CauseLaws

@@ -1,5 +1,5 @@
 -- The least places at which a number isn't good, and at which the order is broken.
-use Rattle.std.proofs.Common.{◌≡◌, ℕ, zero, suc, ◌+◌, ◌-◌, ◌*◌, ◌<◌, ◌≤◌, ◌⊎◌, Bool, true, false, cond, ltb, List, [], ◌∷◌, ◌++◌, length, get_or, Option, Some, None, refl, sym, ap, subst, ◌∙◌, append_assoc, arith, inl, inr, length-append}
+use Rattle.std.proofs.Common.{◌≡◌, ℕ, zero, suc, ◌+◌, ◌-◌, ◌*◌, ◌<◌, ◌≤◌, true, false, cond, ltb, List, [], ◌∷◌, ◌++◌, length, get_or, Some, None, refl, sym, ap, subst, ◌∙◌, append_assoc, arith, inl, inr, length-append}
 use Rattle.std.specs.List.{flat_map, AllByRecursion}
 use Rattle.std.proofs.lemmas.List.{length-map}
 use Rattle.std.proofs.lemmas.Bool.{cases_lt, ltb-true, ltb-false}
@@ -8,11 +8,12 @@ use Rattle.cairo_model.specs.Certificates.{SpanRecord}
 use Rattle.cert_format.specs.declared.refusal.CertRefusal.{CertRefusal}
 use Rattle.cert_format.specs.declared.refusal.CertRefusal.TheVariants.{BadNumber}
 use Rattle.cert_format.specs.Ordering.{IsOrdered}
-use Rattle.cert_format.specs.Reading.{place_of, fallen_at, falls, order_fault}
+use Rattle.cert_format.specs.Reading.{fallen_at, falls, order_fault}
 use Rattle.cert_format.specs.Refusals.{Entry, entry_bytes, entries_bytes, IsGoodEntry, Parts, counted_entries, mark_entries, cell_entries, state_entries, front_entries, entries_of, IsLeast, IsBadAt, cell_place, IsFallenAt, IsStopBelow, IsUnorderedAt}
 use Rattle.cert_format.proofs.FieldLaws.{some_is}
 use Rattle.cert_format.proofs.EntryLaws.{in_two, all_second}
-use Rattle.cert_format.proofs.Scanning.{FirstBad, draft_in, cert_in, lists_bytes, tested}
+use Rattle.cert_format.proofs.Scanning.{FirstBad, tested}
+use Rattle.cert_format.proofs.ReadersScan.{draft_in, cert_in, lists_bytes}
 use Rattle.cert_format.proofs.OrderLaws.{is_ordered}
 
 pub one_least : (P : ℕ → Type 0) (m n : ℕ) → IsLeast P m → IsLeast P n → m ≡ n
@@ -171,10 +172,10 @@ module _ (whole : ℕ) (p : Parts) (rest : List ℕ) (long : whole ≡ 8 + lengt
       record {
         holds = inr (inr (inr fallen));
         none_below = λ k lower. none_of p k (no_stop_below 17 k p.output output) (no_stop_below 33 k p.range range) (no_stop_below 49 k p.hash hash) (λ other.
-        let before : other.index < f.index = omega (arith, lower, other.place_is, is) in
-        let step : suc other.index ≡ other.index + 1 = omega arith in
-        let rises_there : get_or numbers other.index 0 < get_or numbers (other.index + 1) 0 = subst (λ (n : ℕ). get_or numbers other.index 0 < get_or numbers n 0) step (f.rises other.index before) in
-        absurd (omega (arith, other.falls, rises_there)));
+            let before : other.index < f.index = omega (arith, lower, other.place_is, is) in
+            let step : suc other.index ≡ other.index + 1 = omega arith in
+            let rises_there : get_or numbers other.index 0 < get_or numbers (other.index + 1) 0 = subst (λ (n : ℕ). get_or numbers other.index 0 < get_or numbers n 0) step (f.rises other.index before) in
+            absurd (omega (arith, other.falls, rises_there)));
       }
 
   at_output : falls p.output ≡ true → IsLeast (IsUnorderedAt p) 17
