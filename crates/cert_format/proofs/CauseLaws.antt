@@ -1,6 +1,6 @@
 -- The laws of the causes: what is refused has its first cause, and a certificate has none.
 use Rattle.std.proofs.Common.{◌≡◌, ℕ, ◌<◌, ◌≤◌, ◌⊎◌, Bool, true, false, ltb, eqb, List, length, drop, Option, Some, None, Result, Ok, Err, refl, sym, ap, subst, ◌∙◌, inl, inr}
-use Rattle.std.proofs.lemmas.Bool.{eqb-true, eqb-false, ltb-true, ltb-false}
+use Rattle.std.proofs.lemmas.Bool.{eqb-false, ltb-true}
 use Rattle.cairo_model.specs.Answers.{Gives}
 use Rattle.cairo_model.specs.Certificates.{CertRecord}
 use Rattle.cairo_model.specs.Machine.{◌>>=◌, required, demanded}
@@ -11,8 +11,8 @@ use Rattle.cert_format.specs.declared.refusal.CertRefusal.TheVariants.{BadMagic,
 use Rattle.cert_format.specs.Reading.{has_magic, after, after_all, draft_at, order_fault, ordered, reading}
 use Rattle.cert_format.specs.Spelling.{CertBytes}
 use Rattle.cert_format.specs.Refusals.{IsCertCause, IsFirstCertCause}
-use Rattle.cert_format.proofs.FieldLaws.{IsBytes, bind_gives, required_is, else_gives, then_ok, some_is}
-use Rattle.cert_format.proofs.CertLaws.{ended, with_draft, with_all, with_body, with_magic, demand_kept, order_kept, cert_takes, cert_again}
+use Rattle.cert_format.proofs.FieldLaws.{IsBytes, required_is}
+use Rattle.cert_format.proofs.CertLaws.{Accepted, accepted, ended, with_draft, with_all, with_body, with_magic, demand_kept, order_kept, room_for, cert_takes, cert_again}
 use Rattle.cert_format.proofs.MagicLaws.{another_byte}
 use Rattle.cert_format.proofs.Causes.{clear_1, too_short, cut_short, bad_first, order_first, trailing_first, none_at_all, same_first}
 use Rattle.cert_format.proofs.ByteLaws.{spelling_fits}
@@ -41,9 +41,6 @@ order_refused (Some place) x e h go = go place refl (err_is (Order place) e h)
 
 short_of : (n : ℕ) (bytes : List ℕ) → after n bytes ≡ None → length bytes < n
 short_of n bytes e = tested (ltb (length bytes) n) None (Some (drop n bytes)) None e (λ short _. ltb-true (length bytes) n short) (λ _ some. absurd (cc))
-
-room_for : {R : Type 0} (n : ℕ) (bytes body : List ℕ) → after n bytes ≡ Some body → (n ≤ length bytes → drop n bytes ≡ body → R) → R
-room_for n bytes body e go = else_gives (ltb (length bytes) n) (Some (drop n bytes)) body e (λ long is. go (ltb-false (length bytes) n long) (some_is (drop n bytes) body is))
 
 -- behind the magic
 refused_behind : (bytes body : List ℕ) (r : CertRefusal) → IsBytes bytes → has_magic bytes ≡ true → 8 ≤ length bytes → drop 8 bytes ≡ body → with_body (length bytes) body ≡ Err r → IsFirstCertCause bytes r
@@ -93,20 +90,9 @@ is_first bytes given fits h r is = refused_first bytes r fits (subst (λ (x : Re
 -- ---- a certificate has no cause
 
 read_has_none : (bytes : List ℕ) (c : CertRecord) (r : CertRefusal) → IsBytes bytes → reading bytes ≡ Ok c → ¬ IsCertCause bytes r
-unfolding reading
 read_has_none bytes c r fits e =
-    let whole = length bytes in
-    bind_gives (demanded BadMagic (has_magic bytes)) (with_magic bytes) c e (λ m is0 e0.
-    demand_kept BadMagic (has_magic bytes) m is0 (λ begins.
-    bind_gives (required (Truncated whole) (after 8 bytes)) (with_body whole) c e0 (λ body is1 e1.
-    required_is (Truncated whole) (after 8 bytes) body is1 (λ found. room_for 8 bytes body found (λ room is_body.
-    bind_gives (required (Truncated whole) (after_all body)) (with_all whole body) c e1 (λ rest is2 e2.
-    required_is (Truncated whole) (after_all body) rest is2 (λ all.
-    bind_gives (draft_at whole body) (with_draft whole) c e2 (λ x is3 e3.
-    bind_gives (ordered (order_fault whole x.0) x.0.cert) (ended x) c e3 (λ d is4 e4.
-    order_kept (order_fault whole x.0) x.0.cert d is4 (λ no_fault _.
-    then_ok (eqb (length x.1) 0) (Trailing (length x.1)) (Ok d) c e4 (λ none _.
-    none_at_all bytes rest fits begins room (ap after_all is_body ∙ all) x (ap (draft_at whole) is_body ∙ is3) no_fault (eqb-true (length x.1) 0 none) r)))))))))))
+    let a : Accepted bytes c = accepted bytes c e in
+    none_at_all bytes a.rest fits a.begins a.room a.all a.draft a.read a.no_fault a.none r
 
 -- the bytes of a certificate have no cause
 pub certificate_has_no_cause : (bytes : List ℕ) (c : CertRecord) (r : CertRefusal) → CertBytes bytes c → ¬ IsCertCause bytes r

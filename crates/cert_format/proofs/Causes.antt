@@ -1,21 +1,20 @@
 -- Causes of refusals by their numbers: one after the other, that none applies, or that one does first.
 use Rattle.std.proofs.Common.{◌≡◌, ℕ, ◌+◌, ◌<◌, ◌≤◌, true, List, ◌++◌, length, drop, Some, None, Ok, Err, refl, sym, ap, subst, ◌∙◌, arith, length-drop}
-use Rattle.std.specs.List.{AllByRecursion}
 use Rattle.std.proofs.lemmas.List.Elements.{All-from_recursion, recursion_from_All}
 use Rattle.cairo_model.proofs.Firsts as firsts
 use Rattle.cairo_model.specs.FirstFailing.{NoneBelow}
 use Rattle.cert_format.specs.declared.refusal.CertRefusal.{CertRefusal}
 use Rattle.cert_format.specs.declared.refusal.CertRefusal.TheVariants.{BadMagic, Truncated, BadNumber, Order, Trailing}
 use Rattle.cert_format.specs.Reading.{has_magic, after_all, Draft, draft_at, order_fault}
-use Rattle.cert_format.specs.Refusals.{FitsBytes, IsGoodEntry, entries_bytes, Parts, entries_of, HasParts, PartsHave, IsLeast, IsBadAt, IsUnorderedAt, refusal_number, IsCertCause, IsFirstCertCause}
-use Rattle.cert_format.proofs.FieldLaws.{IsBytes, IsBytes-drop, ok_is}
+use Rattle.cert_format.specs.Refusals.{FitsBytes, entries_bytes, Parts, entries_of, HasParts, PartsHave, IsLeast, IsBadAt, IsUnorderedAt, refusal_number, IsCertCause, IsFirstCertCause}
+use Rattle.cert_format.proofs.FieldLaws.{IsBytes, IsBytes-drop}
 use Rattle.cert_format.proofs.EntryLaws.{Fit}
 use Rattle.cert_format.proofs.MagicLaws.{same_bytes}
 use Rattle.cert_format.proofs.PartsFound.{parts_skip}
 use Rattle.cert_format.proofs.Skips.{Skipped, one_rest}
 use Rattle.cert_format.proofs.Places.{one_least, bad_place, bad_is, bad_least, none_bad, order_least, none_unordered}
-use Rattle.cert_format.proofs.Scanning.{FirstBad, scan, scan_goes, scan_passes, scan_stops}
-use Rattle.cert_format.proofs.ReadersScan.{draft_in, draft_scans}
+use Rattle.cert_format.proofs.Scanning.{FirstBad, scan_stops}
+use Rattle.cert_format.proofs.ReadersScan.{IsDraftOf, draft_in, draft_made, draft_read}
 
 -- ---- bytes have at most one row of parts
 
@@ -131,12 +130,9 @@ module _ (bytes rest : List ℕ) (fits : IsBytes bytes) (begins : has_magic byte
   long : length bytes ≡ 8 + length (entries_bytes (entries_of parts) ++ rest)
   long = omega (arith, ap (λ (t : List ℕ). length t) has.spelled, length-drop 8 bytes, room)
 
-  read : draft_at (length bytes) (drop 8 bytes) ≡ scan (length bytes) (entries_of parts) rest (Ok (draft_in parts rest, rest))
-  read = ap (draft_at (length bytes)) has.spelled ∙ draft_scans (length bytes) parts rest (fit_of bytes parts rest has)
-
   pub bad_first : (r : CertRefusal) → draft_at (length bytes) (drop 8 bytes) ≡ Err r → IsFirstCertCause bytes r
   bad_first r e =
-      let f : FirstBad (length bytes) (entries_of parts) rest r = scan_stops (length bytes) (entries_of parts) rest (draft_in parts rest, rest) r (sym read ∙ e) in
+      let f : FirstBad (length bytes) (entries_of parts) rest r = scan_stops (length bytes) (entries_of parts) rest (draft_in parts rest, rest) r (sym (draft_read (length bytes) parts rest (drop 8 bytes) (fit_of bytes parts rest has) has.spelled) ∙ e) in
       let place = bad_place (length bytes) parts rest long r f in
       let first : IsFirstCertCause bytes (BadNumber place) = record {
         applies = record { parts = parts; rest = rest; has_parts = has; holds = bad_least (length bytes) parts rest long r f };
@@ -145,22 +141,19 @@ module _ (bytes rest : List ℕ) (fits : IsBytes bytes) (begins : has_magic byte
       same_first bytes (BadNumber place) r first (bad_is (length bytes) parts rest long r f)
 
   module _ (x : Draft × List ℕ) (is_read : draft_at (length bytes) (drop 8 bytes) ≡ Ok x) where
-    good : AllByRecursion IsGoodEntry (entries_of parts)
-    good = scan_passes (length bytes) (entries_of parts) rest (Ok (draft_in parts rest, rest)) x (sym read ∙ is_read)
-
-    draft_is : (draft_in parts rest, rest) ≡ x
-    draft_is = ok_is (draft_in parts rest, rest) x (scan_goes (length bytes) (entries_of parts) rest (Ok (draft_in parts rest, rest)) x (sym read ∙ is_read))
+    made : IsDraftOf parts rest x
+    made = draft_made (length bytes) parts rest (drop 8 bytes) x (fit_of bytes parts rest has) has.spelled is_read
 
     clear_4 : Clear bytes 4
     clear_4 = next bytes 3 clear_3 (no_bad bytes (λ place cause.
         let least : IsLeast (IsBadAt parts) place = only bytes parts rest (λ p _. IsLeast (IsBadAt p) place) has cause in
-        none_bad parts place good least.holds))
+        none_bad parts place made.good least.holds))
 
     fault_is : order_fault (length bytes) (draft_in parts rest) ≡ order_fault (length bytes) x.0
-    fault_is = ap (λ (y : Draft × List ℕ). order_fault (length bytes) y.0) draft_is
+    fault_is = ap (λ (y : Draft × List ℕ). order_fault (length bytes) y.0) made.is
 
     rest_is : length rest ≡ length x.1
-    rest_is = ap (λ (y : Draft × List ℕ). length y.1) draft_is
+    rest_is = ap (λ (y : Draft × List ℕ). length y.1) made.is
 
     pub order_first : (place : ℕ) → order_fault (length bytes) x.0 ≡ Some place → IsFirstCertCause bytes (Order place)
     order_first place e = record {

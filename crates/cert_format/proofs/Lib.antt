@@ -1,10 +1,7 @@
 pub mod Loop
 pub mod Skipping
 pub mod FieldLaws
-pub mod ItemLaws
-pub mod PartLaws
 pub mod OrderLaws
-pub mod DraftLaws
 pub mod CertLaws
 pub mod TypeFacts
 pub mod EntryLaws
@@ -13,6 +10,7 @@ pub mod ReadersScan
 pub mod Rows
 pub mod Skips
 pub mod PartsFound
+pub mod CertParts
 pub mod Places
 pub mod MagicLaws
 pub mod Causes

@@ -1,20 +1,19 @@
 -- Reading the entries of parts whatever their numbers are: it goes over them to the first that isn't good.
-use Rattle.std.proofs.Common.{◌≡◌, ℕ, zero, suc, ◌-◌, ◌^◌, ◌<◌, Bool, true, false, cond, ltb, eqb, ◌&&◌, not, List, [], ◌∷◌, ◌++◌, length, Result, Ok, Err, refl, ap, ◌∙◌, arith}
+use Rattle.std.proofs.Common.{◌≡◌, ℕ, zero, suc, ◌-◌, ◌^◌, ◌<◌, Bool, true, false, cond, ltb, eqb, ◌&&◌, not, List, [], ◌∷◌, ◌++◌, length, Result, Ok, Err, refl, sym, ap, ◌∙◌, arith}
 use Rattle.std.specs.Int.{w32, w64, to_be_bytes}
-use Rattle.std.specs.List.{flat_map}
+use Rattle.std.specs.List.{AllByRecursion, flat_map}
 use Rattle.std.proofs.lemmas.Bool.{lt-ltb}
 use Rattle.goldi_field.specs.Numbers.{prime}
 use Rattle.cairo_model.specs.Machine.{Registers, ◌>>=◌, required}
 use Rattle.cairo_model.specs.FieldMemories.{FieldCell}
-use Rattle.cairo_model.specs.Certificates.{SpanRecord, MarkRecord, CertRecord}
+use Rattle.cairo_model.specs.Certificates.{CertKind, SpanRecord, MarkRecord, CertRecord}
 use Rattle.cert_format.specs.declared.refusal.CertRefusal.{CertRefusal}
 use Rattle.cert_format.specs.declared.refusal.CertRefusal.TheVariants.{Truncated, BadNumber}
 use Rattle.cert_format.specs.Reading.{Reads, place_of, counted, felt_at, kind_at, span_at, items_at, list_at, mark_at, is_alone, task_count_at, cell_at, state_at, Draft, draft_at}
-use Rattle.cert_format.specs.Refusals.{Entry, FitsBytes, kind, task_count, count, number, entries_bytes, Parts, entries_of, counted_entries, span_entries, base_entries, mark_entries, cell_entries, state_entries}
-use Rattle.cert_format.proofs.FieldLaws.{number_again, count_again}
+use Rattle.cert_format.specs.Refusals.{IsGoodEntry, Entry, FitsBytes, kind, task_count, count, number, entries_bytes, Parts, entries_of, counted_entries, span_entries, base_entries, mark_entries, cell_entries, state_entries}
+use Rattle.cert_format.proofs.FieldLaws.{number_again, count_again, ok_is}
 use Rattle.cert_format.proofs.EntryLaws.{in_two, Fit, all_first, all_second}
-use Rattle.cert_format.proofs.Scanning.{kind_of_number, is_good, scan, scan_bind, scan_then}
-use Rattle.cert_format.proofs.DraftLaws.{cert_of, draft_of, with_states, with_cells, with_tasks, with_count, with_hash, with_range, with_output, with_kind}
+use Rattle.cert_format.proofs.Scanning.{kind_of_number, is_good, scan, scan_bind, scan_then, scan_passes, scan_goes}
 
 -- a reader answers as going over the entries does
 abbrev pub Scans : {A : Type 0} → ℕ → (List ℕ → Reads A) → (A → List Entry) → Type 0
@@ -120,6 +119,38 @@ task_count_scans whole k n rest lt =
     let is = kind_of_number k in
     ap (λ o. required (Truncated whole) o >>= λ x. cond (is_alone is && not (eqb x.0 0)) (Err (BadNumber (place_of whole bytes))) (Ok x)) (count_again n rest lt) ∙ turned (is_alone is && not (eqb n 0)) (BadNumber (place_of whole bytes)) (Ok (n, rest))
 
+-- ---- all of it, as a chain from its end
+
+abbrev pub cert_of : CertKind → SpanRecord → SpanRecord → SpanRecord → List MarkRecord → List FieldCell → List (Registers ℕ) → CertRecord
+cert_of k o r h t c s = record { kind = k; output = o; range = r; hash = h; tasks = t; cells = c; states = s }
+
+abbrev draft_of : CertRecord → ℕ → Draft
+draft_of c n = record { cert = c; from_cells = n }
+
+abbrev with_states : CertKind → SpanRecord → SpanRecord → SpanRecord → List MarkRecord × List ℕ → List FieldCell → List (Registers ℕ) × List ℕ → Reads Draft
+with_states k o r h t c s = Ok (draft_of (cert_of k o r h t.0 c s.0) (length t.1 - 4), s.1)
+
+abbrev with_cells : ℕ → CertKind → SpanRecord → SpanRecord → SpanRecord → List MarkRecord × List ℕ → List FieldCell × List ℕ → Reads Draft
+with_cells whole k o r h t c = list_at whole (state_at whole) c.1 >>= with_states k o r h t c.0
+
+abbrev with_tasks : ℕ → CertKind → SpanRecord → SpanRecord → SpanRecord → List MarkRecord × List ℕ → Reads Draft
+with_tasks whole k o r h t = list_at whole (cell_at whole) t.1 >>= with_cells whole k o r h t
+
+abbrev with_count : ℕ → CertKind → SpanRecord → SpanRecord → SpanRecord → ℕ × List ℕ → Reads Draft
+with_count whole k o r h n = items_at (mark_at whole) n.0 n.1 >>= with_tasks whole k o r h
+
+abbrev with_hash : ℕ → CertKind → SpanRecord → SpanRecord → SpanRecord × List ℕ → Reads Draft
+with_hash whole k o r h = task_count_at whole k h.1 >>= with_count whole k o r h.0
+
+abbrev with_range : ℕ → CertKind → SpanRecord → SpanRecord × List ℕ → Reads Draft
+with_range whole k o r = span_at whole r.1 >>= with_hash whole k o r.0
+
+abbrev with_output : ℕ → CertKind → SpanRecord × List ℕ → Reads Draft
+with_output whole k o = span_at whole o.1 >>= with_range whole k o.0
+
+abbrev with_kind : ℕ → CertKind × List ℕ → Reads Draft
+with_kind whole k = span_at whole k.1 >>= with_output whole k.0
+
 -- ---- all of it
 
 -- what is read of parts, whatever their numbers are
@@ -167,3 +198,19 @@ draft_scans whole p rest fit =
     (scan_then whole (task_count p.kind_number (length p.tasks) ∷ []) e4 rest (task_count_at whole k (entries_bytes e3 ++ rest)) (with_count whole k p.output p.range p.hash) (length p.tasks) end (task_count_scans whole p.kind_number (length p.tasks) (entries_bytes e4 ++ rest) f3.0)
     (scan_then whole marks e5 rest (items_at (mark_at whole) (length p.tasks) (entries_bytes e4 ++ rest)) (with_tasks whole k p.output p.range p.hash) p.tasks end read_marks
     (scan_then whole cells states rest (list_at whole (cell_at whole) (entries_bytes e5 ++ rest)) (with_cells whole k p.output p.range p.hash t) p.cells end read_cells read_states))))))
+
+-- a draft of parts whose numbers are good
+pub record IsDraftOf (p : Parts) (rest : List ℕ) (x : Draft × List ℕ) : Type 0 where
+  pub good : AllByRecursion IsGoodEntry (entries_of p)
+  pub is : ◌≡◌ {A = Draft × List ℕ} (draft_in p rest, rest) x
+
+pub draft_read : (whole : ℕ) (p : Parts) (rest body : List ℕ) → Fit (entries_of p) → body ≡ entries_bytes (entries_of p) ++ rest → draft_at whole body ≡ scan whole (entries_of p) rest (Ok (draft_in p rest, rest))
+draft_read whole p rest body fit spelled = ap (draft_at whole) spelled ∙ draft_scans whole p rest fit
+
+pub draft_made : (whole : ℕ) (p : Parts) (rest body : List ℕ) (x : Draft × List ℕ) → Fit (entries_of p) → body ≡ entries_bytes (entries_of p) ++ rest → draft_at whole body ≡ Ok x → IsDraftOf p rest x
+draft_made whole p rest body x fit spelled e =
+    let scanned : scan whole (entries_of p) rest (Ok (draft_in p rest, rest)) ≡ Ok x = sym (draft_read whole p rest body fit spelled) ∙ e in
+    record {
+      good = scan_passes whole (entries_of p) rest (Ok (draft_in p rest, rest)) x scanned;
+      is = ok_is (draft_in p rest, rest) x (scan_goes whole (entries_of p) rest (Ok (draft_in p rest, rest)) x scanned);
+    }

@@ -58,6 +58,13 @@ bad_fails (task_count k n) e good = some_fails k n e good
 bad_fails (count n) e good = no_two e
 bad_fails (number n) e good = absurd (omega (arith, ltb-false n prime e))
 
+is_true : (b : Bool) → (b ≡ false → ⊥) → b ≡ true
+is_true true h = refl
+is_true false h = absurd (h refl)
+
+pub passes : (e : Entry) → IsGoodEntry e → is_good e ≡ true
+passes e good = is_true (is_good e) (λ bad. bad_fails e bad good)
+
 -- ---- going over entries
 
 -- the answer where all are good, or the first that isn't
@@ -93,6 +100,13 @@ tested false x y z e left right = right refl e
 
 pub err_is : {A E : Type 0} (d e : E) → ◌≡◌ {A = Result A E} (Err d) (Err e) → d ≡ e
 err_is d e h = cc
+
+pub scan_all : {B : Type 0} (whole : ℕ) (es : List Entry) (rest : List ℕ) (r : Result B CertRefusal) → AllByRecursion IsGoodEntry es → scan whole es rest r ≡ r
+unfolding scan
+scan_all whole [] rest r good = refl
+scan_all {B} whole (e ∷ es) rest r good =
+    let stop : Result B CertRefusal = Err (BadNumber (place_of whole (entry_bytes e ++ (entries_bytes es ++ rest)))) in
+    ap (λ (b : Bool). cond b (scan whole es rest r) stop) (passes e good.0) ∙ scan_all whole es rest r good.1
 
 -- an answer that goes over all entries: each is good
 pub scan_passes : {B : Type 0} (whole : ℕ) (es : List Entry) (rest : List ℕ) (r : Result B CertRefusal) (y : B) → scan whole es rest r ≡ Ok y → AllByRecursion IsGoodEntry es
