@@ -183,12 +183,28 @@ parts_stand c h =
     let marks_are = marks_stand c.tasks (recursion_from_All IsMark c.tasks h.tasks) (recursion_from_All (λ m. length m.bases < 2 ^ 32) c.tasks s.few_bases) in
     let cells_are : AllByRecursion Stands cells = ((s.few_cells, tt), cells_stand c.cells (recursion_from_All IsCell c.cells h.cells)) in
     let states_are : AllByRecursion Stands states = ((s.few_states, tt), states_stand c.states (recursion_from_All AreRegisters c.states h.states)) in
-    let lists = all_both Stands marks (cells ++ states) marks_are (all_both Stands cells states cells_are states_are) in
-    (kind_stands c.kind,
-    (number_stands c.output.start h.output.start, (number_stands c.output.stop h.output.stop,
-    (number_stands c.range.start h.range.start, (number_stands c.range.stop h.range.stop,
-    (number_stands c.hash.start h.hash.start, (number_stands c.hash.stop h.hash.stop,
-    (count_stands c.kind c.tasks s.few_tasks s.no_task_alone, lists))))))))
+    let lists = all_both Stands marks (cells ++ states) marks_are (all_both Stands cells states cells_are states_are) in (
+      kind_stands c.kind,
+      (
+        number_stands c.output.start h.output.start,
+        (
+          number_stands c.output.stop h.output.stop,
+          (
+            number_stands c.range.start h.range.start,
+            (
+              number_stands c.range.stop h.range.stop,
+              (
+                number_stands c.hash.start h.hash.start,
+                (
+                  number_stands c.hash.stop h.hash.stop,
+                  (count_stands c.kind c.tasks s.few_tasks s.no_task_alone, lists),
+                ),
+              ),
+            ),
+          ),
+        ),
+      ),
+    )
 
 weaker : {A : Type 0} (P Q : A → Type 0) (go : (a : A) → P a → Q a) (xs : List A) → AllByRecursion P xs → AllByRecursion Q xs
 weaker P Q go [] h = tt
