@@ -15,7 +15,9 @@ mod tests;
 mod writing;
 
 pub use kept::is_certificate;
-pub use laws::{one_certificate, reads_back};
+pub use laws::{
+    certificate_has_no_cause, certificate_or_cause, one_certificate, one_first_cause, reads_back,
+};
 pub use reading::read_cert;
 pub use refusal::CertRefusal;
 pub use writing::write_cert;

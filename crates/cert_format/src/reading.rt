@@ -4,6 +4,7 @@ ghost use Rattle.cairo_model.specs.Certificates.{CertRecord, HasSpelling};
 ghost use Rattle.cairo_model.specs.CertificateViews.{span_of};
 ghost use Rattle.cert_format.specs.Spelling.{CertBytes};
 ghost use Rattle.cert_format.specs.Reading.{reading};
+ghost use Rattle.cert_format.specs.Refusals.{IsFirstCertCause};
 ghost use Rattle.cert_format.specs.Ordering.{IsOrdered};
 ghost use Rattle.cert_format.specs.DraftViews.{draft as draft_of, stretch as from_stretch};
 
@@ -20,9 +21,11 @@ use std::alloc::Global;
 pub fn read_cert(alloc: Global, bytes: &[u8]) -> Result<Cert, End<CertRefusal>>
     // What is read is the certificate of these bytes.
     ensures sound { IfOk result (λ c. CertBytes bytes.now c) }
+    // What is refused is refused for the first cause that applies.
+    ensures refused { (r : CertRefusal) → result ≡ Err (End.Refused r) → IsFirstCertCause bytes.now r }
     // What is refused is no certificate's.
     ensures only { (r : CertRefusal) → result ≡ Err (End.Refused r) → (c : CertRecord) → ¬ CertBytes bytes.now c }
-    // Which refusal it is.
+    // The refusal is that of `reading`, on which crates/shared_prover_cli still stands.
     ensures exact { Gives (λ c. c) result (reading bytes.now) }
 {
     certificate_in(alloc, bytes)
