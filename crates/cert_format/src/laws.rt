@@ -1,14 +1,14 @@
-ghost use Rattle.std.specs.Prelude.{◌≡◌, ◌<◌, ◌⊎◌, ℕ, List, Ok, slice_index};
+ghost use Rattle.std.specs.Prelude.{◌≡◌, ◌<◌, ◌⊎◌, ℕ, List, slice_index};
 ghost use Rattle.cairo_model.specs.Certificates.{CertRecord};
 ghost use Rattle.cert_format.specs.Spelling.{IsCertificate, CertBytes, spelling};
-ghost use Rattle.cert_format.specs.Reading.{reading};
 ghost use Rattle.cert_format.specs.Refusals.{IsCertCause, IsFirstCertCause};
 
 use crate::refusal::CertRefusal;
 
-/// Reading the bytes of a certificate gives it back.
+/// What is written is read as that very certificate: its bytes have no cause to be refused, and are of no other one.
 pub fn reads_back()
-    ensures { (c : CertRecord) → IsCertificate c → reading (spelling c) ≡ Ok c }
+    ensures { (c : CertRecord) → IsCertificate c
+        → ((r : CertRefusal) → ¬ IsCertCause (spelling c) r) × ((d : CertRecord) → CertBytes (spelling c) d → d ≡ c) }
 {}
 
 /// One byte string has at most one certificate.

@@ -25,8 +25,6 @@ pub fn read_cert(alloc: Global, bytes: &[u8]) -> Result<Cert, End<CertRefusal>>
     ensures refused { (r : CertRefusal) → result ≡ Err (End.Refused r) → IsFirstCertCause bytes.now r }
     // What is refused is no certificate's.
     ensures only { (r : CertRefusal) → result ≡ Err (End.Refused r) → (c : CertRecord) → ¬ CertBytes bytes.now c }
-    // The refusal is that of `reading`, on which crates/shared_prover_cli still stands.
-    ensures exact { Gives (λ c. c) result (reading bytes.now) }
 {
     certificate_in(alloc, bytes)
 }

@@ -1,5 +1,5 @@
 -- What `find` finds, by the elements of a list.
-use Rattle.std.proofs.Common.{◌≡◌, ℕ, suc, ◌<◌, Bool, true, false, if◌then◌else◌, List, [], ◌∷◌, length, map, get_or, Option, Some, None, option_map, refl, sym, ap, ◌∙◌, arith}
+use Rattle.std.proofs.Common.{◌≡◌, ℕ, zero, suc, ◌<◌, Bool, true, false, if◌then◌else◌, List, [], ◌∷◌, length, map, get_or, Option, Some, None, option_map, refl, sym, ap, ◌∙◌, arith}
 use Rattle.std.specs.List.{find, Contains}
 use Rattle.std.specs.List.Sorted.{IsStrictlyIncreasing}
 use Rattle.std.proofs.lemmas.List.Elements.{Contains-get_or}
@@ -14,8 +14,13 @@ pub option_map_gives : {X Y R : Type 0} (f : X → Y) (o : Option X) (y : Y) →
 option_map_gives f (Some x) y e go = go x refl (some_same (f x) y e)
 option_map_gives f None y e go = absurd (cc)
 
-in_tail : {X : Type 0} (y x : X) (xs : List X) → Contains xs x → Contains (y ∷ xs) x
+pub in_tail : {X : Type 0} (y x : X) (xs : List X) → Contains xs x → Contains (y ∷ xs) x
 in_tail y x xs at = (suc at.0, omega (arith, at.1), at.2)
+
+-- an element is the first, or one of the rest
+pub in_list : {X R : Type 0} (y x : X) (xs : List X) (k : ℕ) → k < length (y ∷ xs) → get_or (y ∷ xs) k x ≡ x → (y ≡ x → R) → (Contains xs x → R) → R
+in_list y x xs zero lt is first later = first is
+in_list y x xs (suc k) lt is first later = later (k, omega (arith, lt), is)
 
 by_test : {X R : Type 0} (b : Bool) (w v : X) (o : Option X) → (if b then Some w else o) ≡ Some v → (b ≡ true → w ≡ v → R) → (b ≡ false → o ≡ Some v → R) → R
 by_test true w v o e same differ = same refl (some_same w v e)

@@ -7,6 +7,7 @@ pub mod ListsIn
 pub mod LoneAcceptance
 pub mod LoneCertificate
 pub mod LoneLayout
+pub mod OnePlacement
 pub mod PieMemories
 pub mod PlacedCells
 pub mod PlacedRuns

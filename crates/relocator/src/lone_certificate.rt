@@ -56,3 +56,8 @@ pub fn lone_certificates_hold()
     runs_anywhere();
     lone_layout_fits();
 }
+
+/// A PIE has one certificate alone.
+pub fn one_lone_certificate()
+    ensures { (checked : CheckedRecord) (c d : CertRecord) → IsLoneCertificate checked c → IsLoneCertificate checked d → c ≡ d }
+{}

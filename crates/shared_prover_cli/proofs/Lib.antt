@@ -2,6 +2,7 @@ mod FirstBad
 mod FrameCauses
 mod InstanceLaws
 mod KeptBytes
+mod OneAnswer
 mod OrElse
 mod RowCauses
 mod SpanCauses

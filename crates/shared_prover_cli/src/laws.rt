@@ -1,10 +1,16 @@
-ghost use Rattle.std.specs.Prelude.{◌≡◌, ◌↔◌, None, Some};
+ghost use Rattle.std.specs.Prelude.{◌≡◌, ◌↔◌, ℕ, List, None, Some};
 ghost use Rattle.cairo_model.specs.Certificates.{CertRecord};
 ghost use Rattle.cairo_model.specs.MachineAcceptance.{MachineAccepts};
+ghost use Rattle.shared_prover_cli.specs.Answers.{AnswerOf};
 ghost use Rattle.shared_prover_cli.specs.CheckAnswers.{IsOfOnePie};
 ghost use Rattle.shared_prover_cli.specs.FaultCauses.{IsFaultCause, IsFirstFault};
 ghost use Rattle.shared_prover_cli.specs.RunFaults.{fault_of};
 ghost use Rattle.shared_prover_cli.specs.declared.run_fault.RunFault.{RunFault};
+
+use crate::command::Command;
+use cert_format::{one_certificate, one_first_cause};
+use pie_replay::one_verdict;
+use relocator::one_lone_certificate;
 
 /// A certificate of a PIE alone has no fault exactly where the machine accepts it.
 pub fn faults_and_acceptance()
@@ -25,3 +31,14 @@ pub fn one_first_fault()
 pub fn acceptance_by_causes()
     ensures { (cert : CertRecord) → IsOfOnePie cert → (((fault : RunFault) → ¬ IsFaultCause cert fault) ↔ MachineAccepts cert) }
 {}
+
+/// A command has one answer to an input: one status, and one text.
+pub fn one_answer()
+    ensures { (command : Command) (input text other : List ℕ) (status number : ℕ)
+        → AnswerOf command input status text → AnswerOf command input number other → (status ≡ number) × (text ≡ other) }
+{
+    one_verdict();
+    one_lone_certificate();
+    one_certificate();
+    one_first_cause();
+}

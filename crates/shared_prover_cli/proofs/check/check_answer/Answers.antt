@@ -1,8 +1,4 @@
-use Rattle.std.proofs.Common.{◌≡◌, ◌+◌, ℕ, length, map, refl, subst, ap, ◌∙◌, arith, rules, Vec, Global}
-use Rattle.cairo_model.specs.Answers.{Ends}
-use Rattle.cairo_model.specs.declared.end.End.{End}
-use Rattle.cert_format.specs.Reading.{reading}
-use Rattle.cert_format.specs.declared.refusal.CertRefusal.{CertRefusal}
+use Rattle.std.proofs.Common.{◌≡◌, ◌+◌, ℕ, length, map, refl, ap, ◌∙◌, arith, rules, Vec, Global}
 use Rattle.shared_prover_cli.specs.CheckAnswers.{IsOfOnePie}
 use Rattle.shared_prover_cli.specs.CheckAnswers as check
 use Rattle.shared_prover_cli.specs.CheckTexts.{accepted_text}
@@ -15,7 +11,7 @@ pub returns-in-Err-Refused : goal.returns-in-Err-Refused
 returns-in-Err-Refused c = record {
   answer = check.no_certificate c.in-Err-Refused.refusal;
   is_answer = (
-    subst (λ (e : End CertRefusal). Ends e (reading c.args.input.now)) c.in-Err-Refused.field-0-is c.in-Err-Refused.ensures.exact,
+    c.in-Err-Refused.ensures.refused c.in-Err-Refused.refusal (cc),
     λ cert. c.in-Err-Refused.ensures.only c.in-Err-Refused.refusal (cc) cert,
   );
   has_status = c.refused.ensures.0;
