@@ -1,5 +1,5 @@
 -- First indices and first causes.
-use Rattle.std.proofs.Common.{◌≡◌, ℕ, ◌+◌, ◌<◌, inl, inr, arith}
+use Rattle.std.proofs.Common.{◌≡◌, ℕ, ◌+◌, inl, inr, arith}
 use Rattle.std.proofs.lemmas.Bool.{cases_lt}
 use Rattle.cairo_model.specs.FirstFailing.{IsFirstCause, IsFirstFailing, NoneBelow}
 

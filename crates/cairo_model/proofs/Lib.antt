@@ -12,3 +12,7 @@ pub mod Firsts
 pub mod Lists
 pub mod CellCount
 pub mod Appending
+pub mod Bytes
+pub mod Magics
+pub mod Outcomes
+pub mod Rising

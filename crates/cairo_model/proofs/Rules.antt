@@ -1,9 +1,10 @@
 -- The computed step and the rule with its fields by number say the same.
-use Rattle.std.proofs.Common.{◌≡◌, ◌≢◌, ℕ, ◌<◌, ◌==◌, not, Bool, true, false, nat_le, ◌^◌, if◌then◌else◌, Option, Some, None, is_some, refl, sym, subst, arith, lit<, option_and_then}
+use Rattle.std.proofs.Common.{◌≡◌, ◌≢◌, ℕ, ◌<◌, ◌==◌, not, Bool, true, false, nat_le, ◌^◌, if◌then◌else◌, Option, Some, None, is_some, refl, sym, subst, arith, lit<}
 use Rattle.std.proofs.Math.Nat.{mod-lt}
 use Rattle.std.proofs.lemmas.Bool.Decides.{nat_tests}
 use Rattle.cairo_word.specs.Word.{Fields, fields_of, word_fault_of, mixture_fault_of, is_choice, is_jump_mix, bits_of}
 use Rattle.cairo_word.specs.declared.word.WordFault.{WordFault}
+use Rattle.cairo_model.proofs.Outcomes.{and_then_gives, and_then_goes, not_false}
 use Rattle.cairo_model.proofs.Inversion.{moves, moved_so}
 use Rattle.cairo_model.specs.Laws.{RuleAgrees}
 use Rattle.cairo_model.specs.Machine.{Arithmetic, Registers, Moves, Transition, IsExact, moved, found, after, decoded, result_of}
@@ -46,10 +47,6 @@ no_fault_here : (b : Bool) (x : WordFault) (rest : Option WordFault) → (if b t
 no_fault_here true x rest e = absurd (cc)
 no_fault_here false x rest e = (refl, e)
 
-unnot : (b : Bool) → not b ≡ false → b ≡ true
-unnot true e = refl
-unnot false e = absurd (cc)
-
 jump_mix : (b c d e : ℕ) → is_jump_mix b c d e ≡ false → c ≡ 4 → (b ≡ 0) × ((e ≡ 0) × (d ≢ 1))
 jump_mix b c d e none is =
     let p : b ≡ 0 = grind (arith, nat_tests, none) in
@@ -70,11 +67,11 @@ shaped a b c d e small less none =
     let apart : b ≢ 3 = not_is b 3 two.0 in
     let apart_too : d ≢ 3 = not_is d 3 four.0 in
     record {
-      op1 = unnot (is_choice a) one.0;
+      op1 = not_false (is_choice a) one.0;
       res = omega (arith, apart);
-      pc = unnot (is_choice c) three.0;
+      pc = not_false (is_choice c) three.0;
       ap = omega (arith, apart_too);
-      opcode = unnot (is_choice e) five.0;
+      opcode = not_false (is_choice e) five.0;
       jumps = jump_mix b c d e six.0;
     }
 
@@ -85,13 +82,6 @@ decoded_is word f e = undecided (word_fault_of word) (fields_of word) f e
     undecided : (o : Option WordFault) (u f : Fields) → (if is_some o then None else Some u) ≡ Some f → (o ≡ None) × (f ≡ u)
     undecided None u f e = (refl, cc)
     undecided (Some x) u f e = absurd (cc)
-
-read_gives : {X Y R : Type 0} (o : Option X) (f : X → Option Y) (y : Y) → option_and_then f o ≡ Some y → ((x : X) → o ≡ Some x → f x ≡ Some y → R) → R
-read_gives (Some x) f y eq go = go x refl eq
-read_gives None f y eq go = absurd (cc)
-
-read_goes : {X Y : Type 0} (o : Option X) (f : X → Option Y) (x : X) (y : Y) → o ≡ Some x → f x ≡ Some y → option_and_then f o ≡ Some y
-read_goes o f x y is rest = rw is rest
 
 decodes_so : (word : ℕ) (f : Fields) → word_fault_of word ≡ None → f ≡ fields_of word → decoded word ≡ Some f
 decodes_so word f none is = undecided (word_fault_of word) (fields_of word) f none is
@@ -157,7 +147,7 @@ four_goes P n u v w x is by =
 
 module _ {V : Type 0} (A : Arithmetic V) (m : V → Option V) (s t : Registers V) where
   pub follows : Moves A m s t → Transition A m s t
-  follows by = read_gives (A.read by.cell) decoded by.f by.is_decoded (λ word reads decodes.
+  follows by = and_then_gives (A.read by.cell) decoded by.f by.is_decoded (λ word reads decodes.
       let f = by.f in
       let whole = decoded_is word f decodes in
       let op1 = four_gives (λ (from : V). found A m from f.off_op1 ≡ Some by.op1) f.op1_src by.op0 s.pc s.fp s.ap by.has_op1 in
@@ -232,7 +222,7 @@ module _ {V : Type 0} (A : Arithmetic V) (m : V → Option V) (s t : Registers V
     op1 = by.op1;
     res = res;
     is_fetched = by.is_fetched;
-    is_decoded = read_goes (A.read by.cell) decoded by.word by.f by.is_number (decodes_so by.word by.f by.is_defined by.has_fields);
+    is_decoded = and_then_goes (A.read by.cell) decoded by.word by.f by.is_number (decodes_so by.word by.f by.is_defined by.has_fields);
     has_dst = by.dst_is;
     has_op0 = by.op0_is;
     has_op1 = four_goes (λ (from : V). found A m from by.f.off_op1 ≡ Some by.op1) by.f.op1_src by.op0 s.pc s.fp s.ap shape.op1

@@ -1,5 +1,5 @@
--- Where a key is in a rising list of keys.
-use Rattle.std.specs.Prelude.{ℕ, ◌≡◌, ◌<◌, ◌≤◌, List, length, slice_index}
+-- Rising lists of keys, and where a key is in one.
+use Rattle.std.specs.Prelude.{ℕ, ◌≡◌, ◌<◌, ◌≤◌, nat_lt, Bool, true, List, length, slice_index, Option, Some, None}
 
 -- the key is at index i
 pub record IsKeyAt (keys : List ℕ) (key i : ℕ) : Type 0 where
@@ -11,3 +11,8 @@ pub record IsGapFor (keys : List ℕ) (key i : ℕ) : Type 0 where
   pub in_range : i ≤ length keys
   pub smaller_before : (j : ℕ) → j < i → slice_index keys j < key
   pub greater_after : (j : ℕ) → i ≤ j → j < length keys → key < slice_index keys j
+
+-- the key is above the one before, if there was one
+abbrev pub is_after : Option ℕ → ℕ → Bool
+is_after None key = true
+is_after (Some before) key = nat_lt before key

@@ -32,7 +32,7 @@ impl Model for Checked {
 }
 
 impl Checked {
-    /// Takes no memory.
+    /// A PIE that is accepted alone with just this fact and these states. Takes no memory.
     pub fn of(pie: Pie, fact: Fact, states: Vec<State>) -> Checked
         requires { AcceptedWith pie fact (map registers states.items) }
         ensures pie { result.pie ≡ pie }
@@ -42,12 +42,14 @@ impl Checked {
         Checked { pie, fact, states }
     }
 
+    /// The PIE itself.
     pub fn pie(&self) -> &Pie
         ensures { result.now ≡ self.now.pie }
     {
         &self.pie
     }
 
+    /// What its isolated run shows.
     pub fn fact(&self) -> &Fact
         ensures { result.now ≡ self.now.fact }
     {
@@ -62,6 +64,7 @@ impl Checked {
         self.states.as_slice()
     }
 
+    /// How much its isolated run takes, in steps and in cells.
     pub fn shape(&self) -> Shape
         ensures { result ≡ shape_of self.now.pie }
     {
@@ -71,6 +74,7 @@ impl Checked {
         }
     }
 
+    /// The same once more, in memory of its own.
     pub fn try_copy(&self, alloc: Global) -> Result<Checked, AllocError>
         ensures { IfOk result (λ copy. copy ≡ self.now) }
     {

@@ -23,6 +23,7 @@ impl Model for Fact {
 }
 
 impl Fact {
+    /// The same once more, in memory of its own.
     pub fn try_copy(&self, alloc: Global) -> Result<Fact, AllocError>
         ensures { IfOk result (λ copy. copy ≡ self.now) }
     {

@@ -20,19 +20,21 @@ impl Model for Outputs {
 }
 
 impl Outputs {
-    /// Takes no memory.
+    /// The outputs that are these numbers. Takes no memory.
     pub fn of(list: Vec<Felt>) -> Outputs
         ensures { result ≡ map (λ f. f.number) list.items }
     {
         Outputs { list }
     }
 
+    /// The numbers in order. Takes no memory.
     pub fn as_slice(&self) -> &[Felt]
         ensures { map (λ f. f.number) result.now ≡ self.now }
     {
         self.list.as_slice()
     }
 
+    /// The same once more, in memory of its own.
     pub fn try_copy(&self, alloc: Global) -> Result<Outputs, AllocError>
         ensures { IfOk result (λ copy. copy ≡ self.now) }
     {

@@ -1,35 +1,11 @@
 -- The bytes of a certificate are bytes.
-use Rattle.std.proofs.Common.{ℕ, zero, suc, ◌/◌, ◌^◌, ◌<◌, List, [], ◌∷◌, ◌++◌, length, arith}
-use Rattle.std.specs.Int.{Width, w32, w64, byte_len, byte_at, bytes_high_first, to_be_bytes}
+use Rattle.std.proofs.Common.{ℕ, ◌<◌, List, [], ◌∷◌, ◌++◌, length, arith}
+use Rattle.std.specs.Int.{w32, w64, to_be_bytes}
 use Rattle.std.specs.List.{flat_map, AllByRecursion}
-use Rattle.std.proofs.Math.Nat.{mod-lt}
 use Rattle.cairo_model.specs.Certificates.{CertKind, alone, batch, MarkRecord, CertRecord}
 use Rattle.cairo_model.specs.Machine.{Registers}
+use Rattle.cairo_model.proofs.Bytes.{IsBytes, IsBytes-append, IsBytes-nil, IsBytes-cons, number_fits}
 use Rattle.cert_format.specs.Spelling.{magic, kind_byte, span_bytes, counted_bytes, mark_bytes, cell_bytes, state_bytes, spelling}
-use Rattle.cert_format.proofs.FieldLaws.{IsBytes}
-
-IsBytes-nil : IsBytes []
-IsBytes-nil i = omega arith
-
-IsBytes-cons : (x : ℕ) (xs : List ℕ) → x < 256 → IsBytes xs → IsBytes (x ∷ xs)
-IsBytes-cons x xs lt h zero = lt
-IsBytes-cons x xs lt h (suc i) = h i
-
-IsBytes-append : (xs ys : List ℕ) → IsBytes xs → IsBytes ys → IsBytes (xs ++ ys)
-IsBytes-append [] ys a b i = b i
-IsBytes-append (x ∷ xs) ys a b zero = a 0
-IsBytes-append (x ∷ xs) ys a b (suc i) = IsBytes-append xs ys (λ k. a (suc k)) b i
-
-byte_fits : (k n : ℕ) → byte_at k n < 256
-byte_fits zero n = mod-lt n (omega arith)
-byte_fits (suc k) n = mod-lt (n / 256 ^ suc k) (omega arith)
-
-high_first_fits : (k n : ℕ) → IsBytes (bytes_high_first k n)
-high_first_fits zero n = IsBytes-nil
-high_first_fits (suc k) n = IsBytes-cons (byte_at k n) (bytes_high_first k n) (byte_fits k n) (high_first_fits k n)
-
-number_fits : (w : Width) (n : ℕ) → IsBytes (to_be_bytes w n)
-number_fits w n = high_first_fits (byte_len w) n
 
 two_fit : (a b : ℕ) → IsBytes (to_be_bytes w64 a ++ to_be_bytes w64 b)
 two_fit a b = IsBytes-append (to_be_bytes w64 a) (to_be_bytes w64 b) (number_fits w64 a) (number_fits w64 b)

@@ -3,33 +3,22 @@ use Rattle.std.proofs.Common.{◌≡◌, ℕ, ◌<◌, ◌≤◌, ◌⊎◌, Boo
 use Rattle.std.proofs.lemmas.Bool.{eqb-false, ltb-true}
 use Rattle.cairo_model.specs.Answers.{Gives}
 use Rattle.cairo_model.specs.Certificates.{CertRecord}
-use Rattle.cairo_model.specs.Machine.{◌>>=◌, required, demanded}
+use Rattle.cairo_model.specs.Machine.{required, demanded}
 use Rattle.cairo_model.specs.declared.end.End.{End}
 use Rattle.cairo_model.specs.declared.end.End.TheVariants.{Refused}
+use Rattle.cairo_model.proofs.Outcomes.{required_is, tested, err_is, ok_no_err, bind_refused, required_refused}
+use Rattle.cairo_model.proofs.Bytes.{IsBytes}
+use Rattle.cairo_model.proofs.Magics.{another_byte}
 use Rattle.cert_format.specs.declared.refusal.CertRefusal.{CertRefusal}
 use Rattle.cert_format.specs.declared.refusal.CertRefusal.TheVariants.{BadMagic, Truncated, Order, Trailing}
 use Rattle.cert_format.specs.Reading.{has_magic, after, after_all, draft_at, order_fault, ordered, reading}
-use Rattle.cert_format.specs.Spelling.{CertBytes}
+use Rattle.cert_format.specs.Spelling.{magic, CertBytes}
 use Rattle.cert_format.specs.Refusals.{IsCertCause, IsFirstCertCause}
-use Rattle.cert_format.proofs.FieldLaws.{IsBytes, required_is}
 use Rattle.cert_format.proofs.CertLaws.{Accepted, accepted, ended, with_draft, with_all, with_body, with_magic, demand_kept, order_kept, room_for, cert_takes, cert_again}
-use Rattle.cert_format.proofs.MagicLaws.{another_byte}
 use Rattle.cert_format.proofs.Causes.{clear_1, too_short, cut_short, bad_first, order_first, trailing_first, none_at_all, same_first}
 use Rattle.cert_format.proofs.ByteLaws.{spelling_fits}
-use Rattle.cert_format.proofs.Scanning.{tested, err_is}
 
 -- ---- a refusal, by where it comes from
-
-ok_no_err : {A E R : Type 0} (x : A) (e : E) → ◌≡◌ {A = Result A E} (Ok x) (Err e) → R
-ok_no_err x e h = absurd (cc)
-
-bind_refused : {A B E R : Type 0} (r : Result A E) (f : A → Result B E) (e : E) → r >>= f ≡ Err e → (r ≡ Err e → R) → ((x : A) → r ≡ Ok x → f x ≡ Err e → R) → R
-bind_refused (Ok x) f e h stop go = go x refl h
-bind_refused (Err d) f e h stop go = stop (ap Err (err_is d e h))
-
-required_refused : {A E R : Type 0} (d : E) (o : Option A) (e : E) → required d o ≡ Err e → (o ≡ None → d ≡ e → R) → R
-required_refused d (Some x) e h go = absurd (cc)
-required_refused d None e h go = go refl (err_is d e h)
 
 demand_refused : {E R : Type 0} (d : E) (b : Bool) (e : E) → demanded d b ≡ Err e → (b ≡ false → d ≡ e → R) → R
 demand_refused d true e h go = absurd (cc)
@@ -69,7 +58,7 @@ refused_first bytes r fits e =
     let whole = length bytes in
     bind_refused (demanded BadMagic (has_magic bytes)) (with_magic bytes) r e
     (λ stop. demand_refused BadMagic (has_magic bytes) r stop (λ other same.
-    same_first bytes BadMagic r (record { applies = another_byte bytes other; none_before = clear_1 bytes }) same))
+    same_first bytes BadMagic r (record { applies = another_byte magic refl bytes other; none_before = clear_1 bytes }) same))
     (λ m is0 e0. demand_kept BadMagic (has_magic bytes) m is0 (λ begins.
     bind_refused (required (Truncated whole) (after 8 bytes)) (with_body whole) r e0
     (λ stop. required_refused (Truncated whole) (after 8 bytes) r stop (λ none same. same_first bytes (Truncated whole) r (too_short bytes begins (short_of 8 bytes none)) same))

@@ -10,12 +10,13 @@ use Rattle.cairo_model.specs.Certificates.{CertKind, CertRecord, HasSpelling}
 use Rattle.cairo_model.specs.Machine.{◌>>=◌, required, demanded}
 use Rattle.cairo_model.specs.declared.end.End.{End}
 use Rattle.cairo_model.specs.declared.end.End.TheVariants.{Refused}
+use Rattle.cairo_model.proofs.Outcomes.{else_gives, bind_gives, bind_goes, required_is, then_ok, ok_is, some_is}
+use Rattle.cairo_model.proofs.Bytes.{IsBytes, IsBytes-drop}
 use Rattle.cert_format.specs.declared.refusal.CertRefusal.{CertRefusal}
 use Rattle.cert_format.specs.declared.refusal.CertRefusal.TheVariants.{BadMagic, Truncated, Trailing}
 use Rattle.cert_format.specs.Reading.{has_magic, after, after_all, Draft, draft_at, order_fault, ordered, reading}
 use Rattle.cert_format.specs.Spelling.{magic, kind_byte, body_bytes, spelling, IsCertificate, CertBytes}
 use Rattle.cert_format.specs.Ordering.{IsOrdered}
-use Rattle.cert_format.proofs.FieldLaws.{IsBytes, IsBytes-drop, bind_gives, bind_goes, required_is, else_gives, then_ok, ok_is, some_is}
 use Rattle.cert_format.proofs.Skipping.{after_again}
 use Rattle.cert_format.proofs.OrderLaws.{is_ordered, no_order_fault}
 use Rattle.cert_format.proofs.CertParts.{parts_of, same_kind, kind_same, spelled_so, parts_spell, parts_certificate, cert_fits, cert_good}

@@ -4,7 +4,7 @@ use Rattle.std.specs.List.{AllByRecursion}
 use Rattle.std.proofs.lemmas.Grind.{flat_map-append}
 use Rattle.std.proofs.lemmas.List.{drop_at}
 use Rattle.cert_format.specs.Refusals.{Entry, entry_bytes, entries_bytes, FitsBytes}
-use Rattle.cert_format.proofs.FieldLaws.{IsBytes, IsBytes-drop}
+use Rattle.cairo_model.proofs.Bytes.{IsBytes, IsBytes-drop}
 
 -- the bytes of two rows of entries, and then the rest
 pub in_two : (xs ys : List Entry) (rest : List ℕ) → entries_bytes (xs ++ ys) ++ rest ≡ entries_bytes xs ++ (entries_bytes ys ++ rest)

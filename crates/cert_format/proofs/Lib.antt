@@ -12,7 +12,6 @@ pub mod Skips
 pub mod PartsFound
 pub mod CertParts
 pub mod Places
-pub mod MagicLaws
 pub mod Causes
 pub mod ByteLaws
 pub mod CauseLaws

@@ -1,43 +1,11 @@
 -- A certificate has no fault of order exactly where its spans are ordered and its addresses rise.
-use Rattle.std.proofs.Common.{◌≡◌, ℕ, zero, suc, ◌+◌, ◌-◌, ◌<◌, Bool, true, false, cond, List, [], ◌∷◌, Option, Some, None, refl, ap, ◌∙◌, arith}
-use Rattle.std.specs.List.Sorted.{IsStrictlyIncreasing}
-use Rattle.std.proofs.lemmas.Bool.{ltb-true, lt-ltb, ltb-false, le-ltb}
+use Rattle.std.proofs.Common.{◌≡◌, ℕ, ◌-◌, Bool, true, false, cond, List, [], ◌∷◌, Option, Some, None, refl, ap, ◌∙◌}
+use Rattle.std.proofs.lemmas.Bool.{ltb-false, le-ltb}
 use Rattle.cairo_model.specs.FieldMemories.{FieldCell, addresses}
-use Rattle.cert_format.specs.Reading.{Draft, is_after, fallen_at, falls, order_fault}
+use Rattle.cairo_model.proofs.Rising.{Chain, rise_of, chain_of}
+use Rattle.cairo_model.specs.Keys.{is_after}
+use Rattle.cert_format.specs.Reading.{Draft, fallen_at, falls, order_fault}
 use Rattle.cert_format.specs.Ordering.{IsOrdered}
-
--- ---- numbers that rise
-
--- each number is above the one before
-Chain : Option ℕ → List ℕ → Type 0
-Chain before [] = Unit {0}
-Chain before (n ∷ ns) = (is_after before n ≡ true) × Chain (Some n) ns
-
-rises : (n : ℕ) (ns : List ℕ) → Chain (Some n) ns → IsStrictlyIncreasing (n ∷ ns)
-unfolding Chain
-rises n [] h k lt = absurd (omega arith)
-rises n (m ∷ ns) h zero lt = ltb-true n m h.0
-rises n (m ∷ ns) h (suc k) lt =
-    let e : suc k + 1 ≡ suc (k + 1) = omega arith in
-    rw e (rises m ns h.1 k (omega arith))
-
-rise_of : (ns : List ℕ) → Chain None ns → IsStrictlyIncreasing ns
-unfolding Chain
-rise_of [] h = λ k lt. absurd (omega arith)
-rise_of (n ∷ ns) h = rises n ns h.1
-
-chain_from : (n : ℕ) (ns : List ℕ) → IsStrictlyIncreasing (n ∷ ns) → Chain (Some n) ns
-unfolding Chain
-chain_from n [] h = tt
-chain_from n (m ∷ ns) h =
-    let first : n < m = h 0 (omega arith) in
-    let later : IsStrictlyIncreasing (m ∷ ns) = λ k lt. let e : suc k + 1 ≡ suc (k + 1) = omega arith in rw e at (h (suc k) (omega arith)) in
-    (lt-ltb n m first, chain_from m ns later)
-
-chain_of : (ns : List ℕ) → IsStrictlyIncreasing ns → Chain None ns
-unfolding Chain
-chain_of [] h = tt
-chain_of (n ∷ ns) h = (refl, chain_from n ns h)
 
 -- ---- the tests
 
@@ -52,13 +20,11 @@ no_fault_else true p o e go = absurd (cc)
 no_fault_else false p o e go = go refl e
 
 none_fallen : (whole left : ℕ) (before : Option ℕ) (cells : List FieldCell) → fallen_at whole left before cells ≡ None → Chain before (addresses cells)
-unfolding Chain
 none_fallen whole left before [] e = tt
 none_fallen whole left before (c ∷ cs) e =
     no_fault_then (is_after before c.0) (fallen_at whole (left - 16) (Some c.0) cs) (whole - left) e (λ above later. (above, none_fallen whole (left - 16) (Some c.0) cs later))
 
 chain_stands : (whole left : ℕ) (before : Option ℕ) (cells : List FieldCell) → Chain before (addresses cells) → fallen_at whole left before cells ≡ None
-unfolding Chain
 chain_stands whole left before [] h = refl
 chain_stands whole left before (c ∷ cs) h =
     ap (λ (b : Bool). cond b (fallen_at whole (left - 16) (Some c.0) cs) (Some (whole - left))) h.0 ∙ chain_stands whole (left - 16) (Some c.0) cs h.1

@@ -6,12 +6,14 @@ use Rattle.std.specs.List.{flat_map}
 use Rattle.cairo_model.specs.Machine.{Registers}
 use Rattle.cairo_model.specs.FieldMemories.{FieldCell}
 use Rattle.cairo_model.specs.Certificates.{SpanRecord, MarkRecord}
+use Rattle.cairo_model.proofs.Outcomes.{and_then_gives, some_is}
+use Rattle.cairo_model.proofs.Bytes.{IsBytes}
 use Rattle.cert_format.specs.Reading.{count_at, after, after_counted, after_mark, after_marks, after_lists, after_all}
 use Rattle.cert_format.specs.Refusals.{Entry, FitsBytes, entries_bytes, Parts, counted_entries, span_entries, base_entries, mark_entries, cell_entries, state_entries, entries_of}
-use Rattle.cert_format.proofs.FieldLaws.{IsBytes, count_again, some_is}
+use Rattle.cert_format.proofs.FieldLaws.{count_again}
 use Rattle.cert_format.proofs.EntryLaws.{in_two, IsBytes-behind, Fit, all_first, all_second, all_both}
 use Rattle.cert_format.proofs.Rows.{IsRow, kind_entries, kind_row, count_entries, count_one, number_one, number_row, count_row, pair_row, two_one, three_one, span_of, registers_of, cell_row, span_row, state_row}
-use Rattle.cert_format.proofs.Skips.{IsSkip, one_rest, row_skip, in_turn, then_gives, pair_skip, same_skip, view_skip, counted_there, counts_agree, counted_skip}
+use Rattle.cert_format.proofs.Skips.{IsSkip, one_rest, row_skip, in_turn, pair_skip, same_skip, view_skip, counted_there, counts_agree, counted_skip}
 use Rattle.cert_format.proofs.Skipping.{option_goes}
 
 -- ---- the tasks
@@ -49,7 +51,7 @@ pub record Marks (n : ℕ) (bytes rest : List ℕ) : Type 0 where
 marks_there : (n : ℕ) (bytes rest : List ℕ) → IsBytes bytes → after_marks n bytes ≡ Some rest → Marks n bytes rest
 marks_there zero bytes rest fits e = record { value = []; many = refl; parts = some_is bytes rest e; fit = tt }
 marks_there (suc n) bytes rest fits e =
-    then_gives (after_marks n) (after_mark bytes) rest e (λ mid is1 is2.
+    and_then_gives (after_mark bytes) (after_marks n) rest e (λ mid is1 is2.
     let first = mark_skip.there bytes mid fits is1 in
     let others : Marks n mid rest = marks_there n mid rest (IsBytes-behind bytes (entries_bytes (mark_entries first.value)) mid fits first.parts) is2 in
     record {
@@ -92,7 +94,7 @@ after_tasks bytes = option_and_then (λ n. after_marks n.0 n.1) (count_at bytes)
 tasks_skip : IsSkip after_tasks (counted_entries mark_entries)
 tasks_skip = record {
   there = λ bytes rest fits e.
-      then_gives (λ n. after_marks n.0 n.1) (count_at bytes) rest e (λ n is read.
+      and_then_gives (count_at bytes) (λ n. after_marks n.0 n.1) rest e (λ n is read.
       counted_there bytes n fits is (λ parts few.
       let marks : Marks n.0 n.1 rest = marks_there n.0 n.1 rest (IsBytes-behind bytes (to_be_bytes w32 n.0) n.1 fits parts) read in
       let ms = marks.value in

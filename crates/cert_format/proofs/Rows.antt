@@ -4,8 +4,8 @@ use Rattle.std.specs.Int.{w32, w64, from_be_bytes}
 use Rattle.std.proofs.lemmas.List.{drop_at, drop-drop}
 use Rattle.cairo_model.specs.Machine.{Registers}
 use Rattle.cairo_model.specs.Certificates.{SpanRecord}
+use Rattle.cairo_model.proofs.Bytes.{IsBytes, IsBytes-drop, wide32, wide64, front_below, front_takes, front_again}
 use Rattle.cert_format.specs.Refusals.{Entry, FitsBytes, kind, count, entries_bytes, span_entries, base_entries, cell_entries, state_entries}
-use Rattle.cert_format.proofs.FieldLaws.{IsBytes, IsBytes-drop, wide32, wide64, front_below, front_takes, front_again}
 use Rattle.cert_format.proofs.EntryLaws.{in_two, Fit, all_first, all_second, all_both}
 
 pub record IsRow {A : Type 0} (entries : A → List Entry) (size : ℕ) (one : List ℕ → A) : Type 0 where

@@ -5,11 +5,11 @@ use Rattle.std.proofs.lemmas.Bool.{ltb-true, ltb-false, eqb-true, eqb-false}
 use Rattle.goldi_field.specs.Numbers.{prime}
 use Rattle.cairo_model.specs.Machine.{◌>>=◌}
 use Rattle.cairo_model.specs.Certificates.{CertKind, alone, batch}
+use Rattle.cairo_model.proofs.Outcomes.{then_ok, tested, err_is, not_true, not_false}
 use Rattle.cert_format.specs.declared.refusal.CertRefusal.{CertRefusal}
 use Rattle.cert_format.specs.declared.refusal.CertRefusal.TheVariants.{BadNumber}
 use Rattle.cert_format.specs.Reading.{Reads, place_of, is_alone}
 use Rattle.cert_format.specs.Refusals.{Entry, kind, task_count, count, number, entry_bytes, entries_bytes, IsGoodEntry}
-use Rattle.cert_format.proofs.FieldLaws.{then_ok}
 use Rattle.cert_format.proofs.EntryLaws.{in_two}
 
 -- ---- the tests
@@ -24,14 +24,6 @@ is_good (kind k) = not (ltb 1 k)
 is_good (task_count k n) = not (is_alone (kind_of_number k) && not (eqb n 0))
 is_good (count n) = true
 is_good (number n) = ltb n prime
-
-not_true : (b : Bool) → not b ≡ true → b ≡ false
-not_true true e = absurd (cc)
-not_true false e = refl
-
-not_false : (b : Bool) → not b ≡ false → b ≡ true
-not_false true e = refl
-not_false false e = absurd (cc)
 
 no_two : true ≡ false → ⊥
 no_two e = absurd (cc)
@@ -92,14 +84,6 @@ pub scan_then : {A B : Type 0} (whole : ℕ) (es fs : List Entry) (rest : List �
 scan_then {A} {B} whole es fs rest read f a r first later =
     ap (λ (x : Reads A). x >>= f) first ∙ scan_bind whole es (entries_bytes fs ++ rest) (Ok (a, entries_bytes fs ++ rest)) f
     ∙ ap (λ (x : Result B CertRefusal). scan whole es (entries_bytes fs ++ rest) x) later ∙ sym (scan_append whole es fs rest r)
-
--- which way a test went
-pub tested : {A R : Type 0} (b : Bool) (x y z : A) → cond b x y ≡ z → (b ≡ true → x ≡ z → R) → (b ≡ false → y ≡ z → R) → R
-tested true x y z e left right = left refl e
-tested false x y z e left right = right refl e
-
-pub err_is : {A E : Type 0} (d e : E) → ◌≡◌ {A = Result A E} (Err d) (Err e) → d ≡ e
-err_is d e h = cc
 
 pub scan_all : {B : Type 0} (whole : ℕ) (es : List Entry) (rest : List ℕ) (r : Result B CertRefusal) → AllByRecursion IsGoodEntry es → scan whole es rest r ≡ r
 unfolding scan

@@ -1,5 +1,5 @@
 -- Parts that are skipped by their lengths: what is skipped is such a part, and of one alone.
-use Rattle.std.proofs.Common.{◌≡◌, ℕ, zero, suc, ◌+◌, ◌*◌, ◌^◌, ◌<◌, ◌≤◌, ltb, List, [], ◌∷◌, ◌++◌, length, take, drop, Option, Some, None, refl, sym, ap, subst, ◌∙◌, arith, length-append, length-drop}
+use Rattle.std.proofs.Common.{◌≡◌, ℕ, zero, suc, ◌+◌, ◌*◌, ◌^◌, ◌<◌, ◌≤◌, ltb, List, [], ◌∷◌, ◌++◌, length, take, drop, Option, Some, refl, sym, ap, subst, ◌∙◌, arith, length-append, length-drop}
 use Rattle.std.specs.Prelude.{option_and_then}
 use Rattle.std.specs.Int.{w32, to_be_bytes, from_be_bytes}
 use Rattle.std.specs.List.{flat_map}
@@ -7,10 +7,12 @@ use Rattle.std.proofs.lemmas.Bool.{ltb-false}
 use Rattle.std.proofs.lemmas.List.{drop_at, drop-drop}
 use Rattle.cert_format.specs.Reading.{count_at, after, after_counted}
 use Rattle.cert_format.specs.Refusals.{Entry, FitsBytes, entries_bytes, counted_entries}
-use Rattle.cert_format.proofs.FieldLaws.{IsBytes, IsBytes-drop, count_again, wide32, front_below, front_takes, else_gives, some_is}
+use Rattle.cert_format.proofs.FieldLaws.{count_again}
 use Rattle.cert_format.proofs.EntryLaws.{in_two, IsBytes-behind, Fit, all_first, all_second, all_both}
 use Rattle.cert_format.proofs.Rows.{IsRow}
 use Rattle.cert_format.proofs.Skipping.{option_goes, after_again}
+use Rattle.cairo_model.proofs.Outcomes.{and_then_gives, else_gives, some_is}
+use Rattle.cairo_model.proofs.Bytes.{IsBytes, IsBytes-drop, wide32, front_below, front_takes}
 
 pub record Skipped {A : Type 0} (entries : A → List Entry) (bytes rest : List ℕ) : Type 0 where
   pub value : A
@@ -42,14 +44,10 @@ row_skip entries size one row = record {
 abbrev pub in_turn : (List ℕ → Option (List ℕ)) → (List ℕ → Option (List ℕ)) → List ℕ → Option (List ℕ)
 in_turn first second bytes = option_and_then second (first bytes)
 
-pub then_gives : {A B R : Type 0} (f : A → Option B) (o : Option A) (y : B) → option_and_then f o ≡ Some y → ((x : A) → o ≡ Some x → f x ≡ Some y → R) → R
-then_gives f (Some x) y e go = go x refl e
-then_gives f None y e go = absurd (cc)
-
 pub pair_skip : {A B : Type 0} (k1 : List ℕ → Option (List ℕ)) (e1 : A → List Entry) (k2 : List ℕ → Option (List ℕ)) (e2 : B → List Entry) → IsSkip k1 e1 → IsSkip k2 e2 → IsSkip (in_turn k1 k2) (λ (x : A × B). e1 x.0 ++ e2 x.1)
 pair_skip {A} {B} k1 e1 k2 e2 skip1 skip2 = record {
   there = λ bytes rest fits e.
-      then_gives k2 (k1 bytes) rest e (λ mid is1 is2.
+      and_then_gives (k1 bytes) k2 rest e (λ mid is1 is2.
       let first = skip1.there bytes mid fits is1 in
       let second = skip2.there mid rest (IsBytes-behind bytes (entries_bytes (e1 first.value)) mid fits first.parts) is2 in
       record {
@@ -170,7 +168,7 @@ module _ {A : Type 0} (entries : A → List Entry) (size : ℕ) (one : List ℕ 
   pub counted_skip : IsSkip (after_counted size) (counted_entries entries)
   counted_skip = record {
     there = λ bytes rest fits e.
-        then_gives (λ n. after (size * n.0) n.1) (count_at bytes) rest e (λ n is read.
+        and_then_gives (count_at bytes) (λ n. after (size * n.0) n.1) rest e (λ n is read.
         counted_there bytes n fits is (λ parts few.
         let tail_fits : IsBytes n.1 = IsBytes-behind bytes (to_be_bytes w32 n.0) n.1 fits parts in
         let xs = rows n.0 n.1 in

@@ -3,6 +3,7 @@ use Rattle.std.specs.Prelude.{ℕ, zero, suc, ◌-◌, ◌*◌, ◌==◌, ◌&&�
 use Rattle.std.specs.Int.{w32, w64, from_be_bytes}
 use Rattle.std.specs.List.{starts_with}
 use Rattle.goldi_field.specs.Numbers.{prime}
+use Rattle.cairo_model.specs.Keys.{is_after}
 use Rattle.cairo_model.specs.Machine.{Registers, ◌>>=◌, required, demanded}
 use Rattle.cairo_model.specs.FieldMemories.{FieldCell}
 use Rattle.cairo_model.specs.Certificates.{CertKind, alone, batch, SpanRecord, MarkRecord, CertRecord}
@@ -144,11 +145,6 @@ draft_at whole bytes = do
   Ok (record { cert = record { kind = kind.0; output = output.0; range = range.0; hash = hash.0; tasks = tasks.0; cells = cells.0; states = states.0 }; from_cells = length tasks.1 - 4 }, states.1)
 
 -- ---- the order
-
--- the address is above the one before, if there was one
-abbrev pub is_after : Option ℕ → ℕ → Bool
-is_after None n = true
-is_after (Some m) n = nat_lt m n
 
 -- where the first address is that isn't above the one before, in cells of which so many bytes are left
 abbrev pub fallen_at : ℕ → ℕ → Option ℕ → List FieldCell → Option ℕ

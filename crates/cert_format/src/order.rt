@@ -1,6 +1,7 @@
 ghost use Rattle.std.specs.Prelude.{◌≡◌, None, map};
 ghost use Rattle.cairo_model.specs.FieldMemories.{field_cell};
-ghost use Rattle.cert_format.specs.Reading.{is_after as comes_after, falls as stop_falls, fallen_at, order_fault as order_fault_of};
+ghost use Rattle.cairo_model.specs.Keys.{is_after as comes_after};
+ghost use Rattle.cert_format.specs.Reading.{falls as stop_falls, fallen_at, order_fault as order_fault_of};
 ghost use Rattle.cert_format.specs.DraftViews.{draft as draft_of, stretch};
 
 use crate::draft::CertDraft;

@@ -1,13 +1,12 @@
 -- Causes of refusals by their numbers: that none applies before one, and that there is one first cause.
-use Rattle.std.proofs.Common.{◌≡◌, ℕ, ◌+◌, ◌<◌, List, length, sum, [], ◌∷◌, get_or, refl, sym, ap, subst, ◌∙◌, arith, inl, inr}
-use Rattle.std.proofs.lemmas.Bool.{cases_lt}
+use Rattle.std.proofs.Common.{◌≡◌, ℕ, ◌+◌, ◌<◌, List, length, sum, [], ◌∷◌, get_or, refl, sym, ap, subst, ◌∙◌, arith}
 use Rattle.cairo_model.proofs.Firsts as firsts
 use Rattle.cairo_model.specs.FirstFailing.{IsFirstFailing, NoneBelow}
 use Rattle.cairo_model.specs.PieFiles.{Metadata, IsMetadata}
 use Rattle.cairo_model.specs.ReadRefusals.{read_number, text_of, cell_count, IsGoodCell, IsReadCause, IsFirstReadCause}
 use Rattle.cairo_model.specs.declared.read_refusal.ReadRefusal.{ReadRefusal}
 use Rattle.cairo_model.specs.declared.read_refusal.ReadRefusal.TheVariants.{TooLong, BadMagic, Truncated, BadMetadata, BadVersion, BadSizes, TooManySegments, TooLarge, TooManySteps, BadCell, TrailingBytes}
-use Rattle.pie_format.proofs.ReadingFields.{some_is}
+use Rattle.cairo_model.proofs.Outcomes.{some_is}
 
 -- what a refusal names, 0 where it names nothing
 abbrev value_of : ReadRefusal → ℕ

@@ -10,8 +10,10 @@ use Rattle.cairo_model.specs.Values.{Datum}
 use Rattle.cairo_model.specs.Pies.{MemoryCell, place_number}
 use Rattle.cairo_model.specs.PieFiles.{cell_bytes}
 use Rattle.cairo_model.specs.ReadRefusals.{cell_start, place_in, IsGoodCell}
-use Rattle.pie_format.specs.Reading.{front, is_inside, is_after, cell_in, cell_at, cells_at}
-use Rattle.pie_format.proofs.ReadingFields.{IsBytes, IsBytes-drop, bind_gives, bind_refused, required_is, required_refused, then_gives, ok_no_err, no_some}
+use Rattle.cairo_model.proofs.Outcomes.{bind_gives, required_is, then_gives, no_some, ok_no_err, bind_refused, required_refused}
+use Rattle.cairo_model.proofs.Bytes.{IsBytes, IsBytes-drop}
+use Rattle.cairo_model.specs.Keys.{is_after}
+use Rattle.pie_format.specs.Reading.{front, is_inside, cell_in, cell_at, cells_at}
 use Rattle.pie_format.proofs.ReadingCells.{AreSmall, IsRead, some_of, cell_takes, cell_again, cell_len}
 
 -- ---- one cell

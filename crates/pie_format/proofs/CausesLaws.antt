@@ -1,9 +1,8 @@
 -- The laws of the causes: what is refused has its first cause, and a file of a PIE has none.
-use Rattle.std.proofs.Common.{◌≡◌, ℕ, zero, suc, ◌+◌, ◌*◌, ◌/◌, ◌^◌, ◌<◌, ◌≤◌, eqb, List, [], ◌∷◌, ◌++◌, length, None, Result, Ok, Err, refl, sym, ap, subst, ◌∙◌, arith, inl, inr, ◌⊎◌, length-append, length-drop}
-use Rattle.std.specs.Int.{Width, to_be_bytes, bytes_high_first, byte_len, byte_at, w16, w32, w64}
+use Rattle.std.proofs.Common.{◌≡◌, ℕ, ◌+◌, ◌*◌, ◌<◌, ◌≤◌, eqb, List, [], ◌∷◌, ◌++◌, length, None, Result, Ok, Err, refl, sym, ap, subst, ◌∙◌, arith, inl, inr, ◌⊎◌, length-append, length-drop}
+use Rattle.std.specs.Int.{to_be_bytes, w16, w32, w64}
 use Rattle.std.specs.List.{flat_map}
 use Rattle.std.proofs.lemmas.Bool.{eqb-false}
-use Rattle.std.proofs.Math.Nat.{mod-lt}
 use Rattle.cairo_model.specs.Answers.{Gives}
 use Rattle.cairo_model.specs.FirstFailing.{IsFirstFailing}
 use Rattle.cairo_model.specs.PieFiles.{Metadata, PieBytes, cell_bytes, tag_of, payload_of}
@@ -13,8 +12,9 @@ use Rattle.cairo_model.specs.declared.end.End.{End}
 use Rattle.cairo_model.specs.declared.end.End.TheVariants.{Refused}
 use Rattle.cairo_model.specs.declared.read_refusal.ReadRefusal.{ReadRefusal}
 use Rattle.cairo_model.specs.declared.read_refusal.ReadRefusal.TheVariants.{BadCell, TrailingBytes}
+use Rattle.cairo_model.proofs.Outcomes.{tested, err_is, ok_no_err, bind_refused}
+use Rattle.cairo_model.proofs.Bytes.{IsBytes, IsBytes-drop, IsBytes-append, IsBytes-nil, number_fits}
 use Rattle.pie_format.specs.Reading.{Parts, parts_at, metadata_at, cells_at, reading}
-use Rattle.pie_format.proofs.ReadingFields.{IsBytes, IsBytes-drop, IsBytes-append, IsBytes-nil, IsBytes-cons, tested, err_is, ok_no_err, bind_refused}
 use Rattle.pie_format.proofs.ReadingCells.{AreSmall, AreRead, cells_take, cells_len}
 use Rattle.pie_format.proofs.ReadingLaws.{with_parts, with_metadata, with_cells, AreStages, stages, pie_takes}
 use Rattle.pie_format.proofs.Causes.{Clear, clear_next, none_at_all, same_first}
@@ -83,17 +83,6 @@ pub file_or_cause : (bytes : List ℕ) → IsBytes bytes → ((pie : PieRecord) 
 file_or_cause bytes fits = by_reading bytes (reading bytes) fits refl
 
 -- ---- the cells of a PIE are bytes
-
-byte_fits : (k n : ℕ) → byte_at k n < 256
-byte_fits zero n = mod-lt n (omega arith)
-byte_fits (suc k) n = mod-lt (n / 256 ^ suc k) (omega arith)
-
-high_first_fits : (k n : ℕ) → IsBytes (bytes_high_first k n)
-high_first_fits zero n = IsBytes-nil
-high_first_fits (suc k) n = IsBytes-cons (byte_at k n) (bytes_high_first k n) (byte_fits k n) (high_first_fits k n)
-
-number_fits : (w : Width) (n : ℕ) → IsBytes (to_be_bytes w n)
-number_fits w n = high_first_fits (byte_len w) n
 
 cell_fits : (c : MemoryCell) → IsBytes (cell_bytes c)
 cell_fits c =

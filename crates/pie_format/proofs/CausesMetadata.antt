@@ -6,10 +6,10 @@ use Rattle.cairo_model.specs.PieFiles.{Metadata, IsMetadata}
 use Rattle.cairo_model.specs.ReadRefusals.{text_of, HasSizes, MetadataHas, IsFirstReadCause}
 use Rattle.cairo_model.specs.declared.read_refusal.ReadRefusal.{ReadRefusal}
 use Rattle.cairo_model.specs.declared.read_refusal.ReadRefusal.TheVariants.{BadMetadata, BadVersion, BadSizes, TooManySegments, TooLarge, TooManySteps}
+use Rattle.cairo_model.proofs.Outcomes.{required_is, some_is, no_some, tested, err_is, ok_no_err, bind_refused, required_refused, not_true, not_false}
 use Rattle.pie_format.specs.Reading.{metadata_in, has_sizes, metadata_fault, unless, metadata_at}
 use Rattle.pie_format.proofs.ReadingSizes.{sizes_hold, sizes_pass, are_held}
-use Rattle.pie_format.proofs.ReadingFields.{tested, some_is, no_some, err_is, ok_no_err, bind_refused, required_refused, required_is}
-use Rattle.pie_format.proofs.ReadingMetadata.{Kept, IsRead, not_false, says_so, reads_so, metadata_takes}
+use Rattle.pie_format.proofs.ReadingMetadata.{Kept, IsRead, says_so, reads_so, metadata_takes}
 use Rattle.pie_format.proofs.Causes.{Clear, clear_next, same_first, one_metadata}
 
 true_no_false : {R : Type 0} (b : Bool) → b ≡ true → b ≡ false → R
@@ -20,10 +20,6 @@ true_no_false false e f = absurd (cc)
 
 some_fault : {R : Type 0} (b : Bool) (x : ReadRefusal) (o : Option ReadRefusal) (r : ReadRefusal) → cond b (Some x) o ≡ Some r → (b ≡ true → x ≡ r → R) → (b ≡ false → o ≡ Some r → R) → R
 some_fault b x o r e here later = tested b (Some x) o (Some r) e (λ t h. here t (some_is x r h)) later
-
-not_true : (b : Bool) → not b ≡ true → b ≡ false
-not_true true e = absurd (cc)
-not_true false e = refl
 
 module _ (bytes : List ℕ) (m : Metadata) (is : IsMetadata (text_of bytes) m) where
   -- what the metadata of the file has, this has

@@ -1,44 +1,17 @@
 -- The causes in the parts of a file, and where the parts stand that are read.
-use Rattle.std.proofs.Common.{◌≡◌, ◌≢◌, ℕ, ◌+◌, ◌-◌, ◌*◌, ◌<◌, ◌≤◌, true, false, cond, ltb, eqb, List, [], ◌∷◌, length, get_or, take, drop, Some, None, Ok, Err, refl, sym, ap, subst, ◌∙◌, arith, inl, inr, zero, suc, length-drop}
-use lib.Pointwise.{pointwise}
+use Rattle.std.proofs.Common.{◌≡◌, ℕ, ◌+◌, ◌-◌, ◌*◌, ◌≤◌, true, cond, ltb, List, length, take, drop, Some, None, Ok, Err, refl, sym, ap, subst, ◌∙◌, arith, inl, inr, length-drop}
 use Rattle.std.specs.Int.{w32}
-use Rattle.std.proofs.lemmas.Bool.{ltb-true, ltb-false, eqb-true, eqb-false, and_parts, and_cases}
-use Rattle.std.proofs.lemmas.List.{drop-drop, length-take, get_or-take}
+use Rattle.std.proofs.lemmas.Bool.{ltb-true, ltb-false}
+use Rattle.std.proofs.lemmas.List.{drop-drop}
 use Rattle.cairo_model.specs.Machine.{required}
 use Rattle.cairo_model.specs.PieFiles.{magic}
 use Rattle.cairo_model.specs.ReadRefusals.{text_length, text_of, cell_count, cell_start, IsCut, IsFirstReadCause}
 use Rattle.cairo_model.specs.declared.read_refusal.ReadRefusal.{ReadRefusal}
 use Rattle.cairo_model.specs.declared.read_refusal.ReadRefusal.TheVariants.{TooLong, BadMagic, Truncated}
+use Rattle.cairo_model.proofs.Outcomes.{required_is, some_is, tested, err_is, ok_no_err, required_refused}
+use Rattle.cairo_model.proofs.Magics.{another_byte, same_bytes}
 use Rattle.pie_format.specs.Reading.{Parts, front, has_magic, counted, after_length, whole_parts, parts_at}
-use Rattle.pie_format.proofs.ReadingFields.{tested, err_is, ok_no_err, required_refused, required_is, some_is}
 use Rattle.pie_format.proofs.Causes.{Clear, clear_start, clear_next, same_first}
-
--- ---- the magic
-
-differs : (xs ys : List ℕ) → pointwise eqb xs (take (length xs) ys) ≡ false → length xs ≤ length ys → (i : ℕ) × ((i < length xs) × (get_or xs i 0 ≢ get_or ys i 0))
-differs [] ys e le = absurd (cc)
-differs (x ∷ xs) [] e le = absurd (omega arith)
-differs (x ∷ xs) (y ∷ ys) e le =
-    elim (and_cases (eqb x y) (pointwise eqb xs (take (length xs) ys)) e) [
-      | inl head ↦ (0, (omega arith, eqb-false x y head))
-      | inr tail ↦ let d = differs xs ys tail (omega arith) in (suc d.0, (omega (arith, d.1.0), d.1.1))
-    ]
-
-agrees : (xs ys : List ℕ) → pointwise eqb xs (take (length xs) ys) ≡ true → (i : ℕ) → i < length xs → get_or xs i 0 ≡ get_or ys i 0
-agrees [] ys e i lt = absurd (omega arith)
-agrees (x ∷ xs) [] e i lt = absurd (cc)
-agrees (x ∷ xs) (y ∷ ys) e zero lt = eqb-true x y (and_parts (eqb x y) (pointwise eqb xs (take (length xs) ys)) e).0
-agrees (x ∷ xs) (y ∷ ys) e (suc i) lt = agrees xs ys (and_parts (eqb x y) (pointwise eqb xs (take (length xs) ys)) e).1 i (omega arith)
-
-another_byte : (bytes : List ℕ) → has_magic bytes ≡ false → (i : ℕ) × ((i < 8) × ((i < length bytes) × (get_or bytes i 0 ≢ get_or magic i 0)))
-another_byte bytes e =
-    let d = differs (take 8 bytes) magic e (omega (arith, length-take 8 bytes)) in
-    let early : d.0 < 8 = omega (arith, length-take 8 bytes, d.1.0) in
-    let there : d.0 < length bytes = omega (arith, length-take 8 bytes, d.1.0) in
-    (d.0, (early, (there, λ same. d.1.1 (get_or-take 8 bytes d.0 0 early ∙ same))))
-
-same_bytes : (bytes : List ℕ) → has_magic bytes ≡ true → (i : ℕ) → i < 8 → i < length bytes → get_or bytes i 0 ≡ get_or magic i 0
-same_bytes bytes e i early there = sym (get_or-take 8 bytes i 0 early) ∙ agrees (take 8 bytes) magic e i (omega (arith, length-take 8 bytes))
 
 -- ---- the parts
 
@@ -117,7 +90,7 @@ clear_2 : (bytes : List ℕ) → length bytes ≤ 2097152 → Clear bytes 2
 clear_2 bytes le = clear_next bytes 1 (clear_start bytes) (λ v cause. absurd (omega (arith, cause.1)))
 
 clear_3 : (bytes : List ℕ) → length bytes ≤ 2097152 → has_magic bytes ≡ true → Clear bytes 3
-clear_3 bytes le begins = clear_next bytes 2 (clear_2 bytes le) (λ v cause. cause.1.1.1 (same_bytes bytes begins cause.0 cause.1.0 cause.1.1.0))
+clear_3 bytes le begins = clear_next bytes 2 (clear_2 bytes le) (λ v cause. cause.1.1.1 (same_bytes magic refl bytes begins cause.0 cause.1.0 cause.1.1.0))
 
 pub record Placed (bytes : List ℕ) (p : Parts) : Type 0 where
   pub stands : Stand bytes p
@@ -141,4 +114,4 @@ parts_refused bytes r e =
     (λ short e1. tested (has_magic bytes) (required (Truncated (length bytes)) (whole_parts bytes)) (Err BadMagic) (Err r) e1
     (λ begins e2. required_refused (Truncated (length bytes)) (whole_parts bytes) r e2 (λ none same.
     same_first bytes (Truncated (length bytes)) r (record { applies = (refl, is_cut bytes none); none_before = clear_3 bytes (ltb-false 2097152 (length bytes) short) begins }) same))
-    (λ other h. same_first bytes BadMagic r (record { applies = another_byte bytes other; none_before = clear_2 bytes (ltb-false 2097152 (length bytes) short) }) (err_is BadMagic r h)))
+    (λ other h. same_first bytes BadMagic r (record { applies = another_byte magic refl bytes other; none_before = clear_2 bytes (ltb-false 2097152 (length bytes) short) }) (err_is BadMagic r h)))

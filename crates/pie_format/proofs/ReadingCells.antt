@@ -3,7 +3,6 @@ use Rattle.std.proofs.Common.{◌≡◌, ℕ, zero, suc, ◌+◌, ◌-◌, ◌*�
 use Rattle.std.specs.Prelude.{slice_index}
 use Rattle.std.specs.Int.{w16, w32, w64, to_be_bytes}
 use Rattle.std.specs.List.{flat_map, AllByRecursion}
-use Rattle.std.specs.List.Sorted.{IsStrictlyIncreasing}
 use Rattle.std.proofs.lemmas.Bool.{ltb-true, lt-ltb, and_parts, and_from, eqb-true}
 use Rattle.std.proofs.lemmas.List.{drop-drop, drop_at}
 use Rattle.std.proofs.lemmas.Nat.{div-mul-add, div-add-mod'}
@@ -14,10 +13,13 @@ use Rattle.cairo_model.specs.Machine.{◌>>=◌, required}
 use Rattle.cairo_model.specs.Values.{Datum, number, place}
 use Rattle.cairo_model.specs.Pies.{MemoryCell, IsValueIn, IsCellOf, place_number}
 use Rattle.cairo_model.specs.PieFiles.{tag_of, payload_of, cell_bytes}
-use Rattle.pie_format.specs.Reading.{front, number_value, place_value, value_in, all_below, is_inside, is_after, cell_in, cell_at, cells_at}
+use Rattle.cairo_model.proofs.Outcomes.{bind_gives, bind_goes, required_is, then_gives, ok_is, some_is, no_some, tested}
+use Rattle.cairo_model.proofs.Bytes.{IsBytes, Takes, Takes-then, wide16, wide32, wide64, front_takes, front_again, rest_again}
+use Rattle.cairo_model.proofs.Rising.{Chain}
+use Rattle.cairo_model.specs.Keys.{is_after}
+use Rattle.pie_format.specs.Reading.{front, number_value, place_value, value_in, all_below, is_inside, cell_in, cell_at, cells_at}
 use Rattle.pie_format.proofs.ReadingSizes.{below_at}
 use Rattle.pie_format.proofs.ReadingLoop.{cell_parts}
-use Rattle.pie_format.proofs.ReadingFields.{IsBytes, Takes, Takes-then, wide16, wide32, wide64, front_takes, front_again, rest_again, bind_gives, bind_goes, required_is, then_gives, some_is, ok_is, tested, no_some}
 
 -- ---- values
 
@@ -159,11 +161,6 @@ cell_len c = refl
 
 -- ---- several cells
 
--- each place number is above the one before
-abbrev pub Chain : Option ℕ → List ℕ → Type 0
-Chain before [] = Unit {0}
-Chain before (n ∷ ns) = (is_after before n ≡ true) × Chain (Some n) ns
-
 abbrev pub numbers : List MemoryCell → List ℕ
 numbers cells = map (λ c. place_number c.segment c.offset) cells
 
@@ -222,25 +219,3 @@ cells_len (c ∷ cs) =
     omega (arith, whole, cell_len c, cells_len cs)
 
 -- ---- the order
-
-rises : (n : ℕ) (ns : List ℕ) → Chain (Some n) ns → IsStrictlyIncreasing (n ∷ ns)
-rises n [] h k lt = absurd (omega arith)
-rises n (m ∷ ns) h zero lt = ltb-true n m h.0
-rises n (m ∷ ns) h (suc k) lt =
-    let e : suc k + 1 ≡ suc (k + 1) = omega arith in
-    rw e (rises m ns h.1 k (omega arith))
-
-pub rise_of : (ns : List ℕ) → Chain None ns → IsStrictlyIncreasing ns
-rise_of [] h = λ k lt. absurd (omega arith)
-rise_of (n ∷ ns) h = rises n ns h.1
-
-chain_from : (n : ℕ) (ns : List ℕ) → IsStrictlyIncreasing (n ∷ ns) → Chain (Some n) ns
-chain_from n [] h = tt
-chain_from n (m ∷ ns) h =
-    let first : n < m = h 0 (omega arith) in
-    let later : IsStrictlyIncreasing (m ∷ ns) = λ k lt. let e : suc k + 1 ≡ suc (k + 1) = omega arith in rw e at (h (suc k) (omega arith)) in
-    (lt-ltb n m first, chain_from m ns later)
-
-pub chain_of : (ns : List ℕ) → IsStrictlyIncreasing ns → Chain None ns
-chain_of [] h = tt
-chain_of (n ∷ ns) h = (refl, chain_from n ns h)

@@ -13,12 +13,14 @@ use Rattle.cairo_model.specs.Answers.{Gives}
 use Rattle.cairo_model.specs.Machine.{◌>>=◌}
 use Rattle.cairo_model.specs.Pies.{MemoryCell, PieRecord, IsCellOf, KeepsRules}
 use Rattle.cairo_model.specs.PieFiles.{magic, Metadata, IsMetadata, cell_bytes, text_bytes, cells_bytes, first_version, PieBytes}
+use Rattle.cairo_model.proofs.Outcomes.{bind_gives, bind_goes, then_ok, ok_is}
+use Rattle.cairo_model.proofs.Bytes.{IsBytes, Takes, Takes-then}
+use Rattle.cairo_model.proofs.Rising.{rise_of, chain_of}
 use Rattle.pie_format.specs.Reading.{Parts, parts_at, metadata_at, cells_at, reading}
 use Rattle.pie_format.proofs.ReadingSizes.{small_from_sum}
-use Rattle.pie_format.proofs.ReadingFields.{IsBytes, Takes, Takes-then, bind_gives, bind_goes, then_ok, ok_is}
 use Rattle.pie_format.proofs.ReadingParts.{ArePartsOf, parts_take, parts_again}
 use Rattle.pie_format.proofs.ReadingMetadata.{IsRead, metadata_takes, metadata_again}
-use Rattle.pie_format.proofs.ReadingCells.{AreSmall, AreRead, numbers, cells_take, cells_again, cells_len, rise_of, chain_of}
+use Rattle.pie_format.proofs.ReadingCells.{AreSmall, AreRead, numbers, cells_take, cells_again, cells_len}
 
 -- the chain of the reading from its end
 abbrev pub with_cells : Metadata → List MemoryCell × List ℕ → Result PieRecord ReadRefusal

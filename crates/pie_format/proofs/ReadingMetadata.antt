@@ -10,18 +10,14 @@ use Rattle.cairo_model.specs.declared.read_refusal.ReadRefusal.TheVariants.{BadM
 use Rattle.cairo_model.specs.Machine.{◌>>=◌, required}
 use Rattle.cairo_model.specs.Pies.{AreSizes}
 use Rattle.cairo_model.specs.PieFiles.{Metadata, IsMetadata, metadata_of}
+use Rattle.cairo_model.proofs.Outcomes.{bind_gives, required_is, then_gives, ok_is, not_false}
 use Rattle.pie_format.specs.Reading.{metadata_in, all_below, has_sizes, metadata_fault, unless, metadata_at}
 use Rattle.pie_format.proofs.ReadingSizes.{sizes_small, sizes_hold, sizes_pass, are_held}
-use Rattle.pie_format.proofs.ReadingFields.{bind_gives, required_is, then_gives, ok_is}
 
 -- no refusal, and none later
 no_fault : {R : Type 0} (b : Bool) (r : ReadRefusal) (o : Option ReadRefusal) → cond b (Some r) o ≡ None → (b ≡ false → o ≡ None → R) → R
 no_fault true r o e go = absurd (cc)
 no_fault false r o e go = go refl e
-
-pub not_false : (b : Bool) → not b ≡ false → b ≡ true
-not_false true e = refl
-not_false false e = absurd (cc)
 
 -- what metadata keeps that breaks no rule
 pub record Kept (m : Metadata) : Type 0 where

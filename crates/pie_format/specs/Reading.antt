@@ -5,6 +5,7 @@ use Rattle.std.specs.Int.{Width, w16, w32, w64, byte_len, from_be_bytes}
 use Rattle.std.specs.List.{starts_with}
 use Rattle.serde_json.specs.Read.{read}
 use Rattle.goldi_field.specs.Numbers.{prime}
+use Rattle.cairo_model.specs.Keys.{is_after}
 use Rattle.cairo_model.specs.declared.read_refusal.ReadRefusal.{ReadRefusal}
 use Rattle.cairo_model.specs.declared.read_refusal.ReadRefusal.TheVariants.{TooLong, BadMagic, Truncated, BadMetadata, BadVersion, BadSizes, TooManySegments, TooLarge, TooManySteps, BadCell, TrailingBytes}
 use Rattle.cairo_model.specs.Machine.{◌>>=◌, required}
@@ -98,11 +99,6 @@ value_in segments tag payload =
 -- the segment is there, and the offset is below its size
 abbrev pub is_inside : List ℕ → ℕ → ℕ → Bool
 is_inside sizes segment offset = nat_lt segment (length sizes) && nat_lt offset (slice_index sizes segment)
-
--- the place is above the one before, if there was one
-abbrev pub is_after : Option ℕ → ℕ → Bool
-is_after None n = true
-is_after (Some m) n = nat_lt m n
 
 abbrev pub cell_in : List ℕ → Option ℕ → ℕ → ℕ → Option Datum → Option MemoryCell
 cell_in sizes before segment offset value =

@@ -3,7 +3,8 @@ ghost use Rattle.cairo_model.specs.Answers.{Gives};
 ghost use Rattle.cairo_model.specs.Views.{datum};
 ghost use Rattle.cairo_model.specs.PieViews.{memory_cell};
 ghost use Rattle.cairo_model.specs.Pies.{place_number as number_of_place};
-ghost use Rattle.pie_format.specs.Reading.{number_value, place_value, value_in, is_inside as stands_inside, is_after as comes_after, cell_in as cell_with, cell_at, cells_at, all_below};
+ghost use Rattle.cairo_model.specs.Keys.{is_after as comes_after};
+ghost use Rattle.pie_format.specs.Reading.{number_value, place_value, value_in, is_inside as stands_inside, cell_in as cell_with, cell_at, cells_at, all_below};
 ghost use Rattle.pie_format.specs.ReadingViews.{memory_cells};
 
 use crate::file_parts::{CELL_BYTES, number16, number32, number64};

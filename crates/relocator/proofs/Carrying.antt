@@ -1,9 +1,10 @@
 -- A step in one arithmetic carried over to another, by a map that keeps what the machine uses.
-use Rattle.std.proofs.Common.{◌≡◌, ℕ, Bool, true, false, ◌==◌, if◌then◌else◌, Option, Some, None, ℤ, refl, ap, subst, option_and_then}
+use Rattle.std.proofs.Common.{◌≡◌, ℕ, Bool, true, false, ◌==◌, if◌then◌else◌, Option, Some, ℤ, refl, ap, subst}
 use Rattle.cairo_word.specs.Word.{Fields, instruction_size}
 use Rattle.cairo_word.specs.declared.word.Reg.{Reg}
 use Rattle.cairo_word.specs.declared.word.Reg.TheVariants.{Ap, Fp}
 use Rattle.cairo_model.specs.Machine.{Arithmetic, Registers, Moves, moved, found, spelled, register_in, after, op1_from, result_of, next_pc, next_ap, next_fp, offset_number, decoded}
+use Rattle.cairo_model.proofs.Outcomes.{some_is, and_then_gives, and_then_goes}
 
 -- A map from one arithmetic to another that keeps what is defined. It need keep the test for zero at good values alone.
 pub record Carries {V W : Type 0} (A : Arithmetic V) (B : Arithmetic W) (h : V → W) (Good : V → Type 0) : Type 0 where
@@ -12,17 +13,6 @@ pub record Carries {V W : Type 0} (A : Arithmetic V) (B : Arithmetic W) (h : V �
   pub numerals : (n : ℕ) → h (A.numeral n) ≡ B.numeral n
   pub reads : (a : V) (n : ℕ) → A.read a ≡ Some n → B.read (h a) ≡ Some n
   pub zeros : (a : V) → Good a → A.is_zero a ≡ B.is_zero (h a)
-
--- a look-up that gave a value went through one
-and_then_gives : {X Y R : Type 0} (o : Option X) (f : X → Option Y) (y : Y) → option_and_then f o ≡ Some y → ((x : X) → o ≡ Some x → f x ≡ Some y → R) → R
-and_then_gives (Some x) f y eq go = go x refl eq
-and_then_gives None f y eq go = absurd (cc)
-
-and_then_goes : {X Y : Type 0} (o : Option X) (f : X → Option Y) (x : X) (y : Y) → o ≡ Some x → f x ≡ Some y → option_and_then f o ≡ Some y
-and_then_goes o f x y is rest = rw is rest
-
-some_same : {X : Type 0} (x y : X) → Some x ≡ Some y → x ≡ y
-some_same x y e = cc
 
 -- a choice is carried over where both sides are
 chosen : {V W : Type 0} (h : V → W) (b : Bool) (o p : Option V) (o' p' : Option W) (x : V) →
@@ -35,7 +25,7 @@ choice h true u v = refl
 choice h false u v = refl
 
 kept : {V W : Type 0} (h : V → W) (u x : V) → Some u ≡ Some x → ◌≡◌ {A = Option W} (Some (h u)) (Some (h x))
-kept h u x e = ap (λ y. Some (h y)) (some_same u x e)
+kept h u x e = ap (λ y. Some (h y)) (some_is u x e)
 
 choice_of_four : {V W : Type 0} (h : V → W) (a b c : Bool) (t u v w : V) →
     h (if a then t else (if b then u else (if c then v else w))) ≡ (if a then h t else (if b then h u else (if c then h v else h w)))

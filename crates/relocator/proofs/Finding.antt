@@ -6,12 +6,10 @@ use Rattle.std.proofs.lemmas.List.Elements.{Contains-get_or}
 use Rattle.std.proofs.lemmas.List.{get_or-map, length-map}
 use Rattle.cairo_model.proofs.Lists.{at_some}
 use Rattle.cairo_model.proofs.Searching.{TellsKey, key_is, found_at}
-
-pub some_same : {X : Type 0} (x y : X) → Some x ≡ Some y → x ≡ y
-some_same x y e = cc
+use Rattle.cairo_model.proofs.Outcomes.{some_is}
 
 pub option_map_gives : {X Y R : Type 0} (f : X → Y) (o : Option X) (y : Y) → option_map f o ≡ Some y → ((x : X) → o ≡ Some x → f x ≡ y → R) → R
-option_map_gives f (Some x) y e go = go x refl (some_same (f x) y e)
+option_map_gives f (Some x) y e go = go x refl (some_is (f x) y e)
 option_map_gives f None y e go = absurd (cc)
 
 pub in_tail : {X : Type 0} (y x : X) (xs : List X) → Contains xs x → Contains (y ∷ xs) x
@@ -23,7 +21,7 @@ in_list y x xs zero lt is first later = first is
 in_list y x xs (suc k) lt is first later = later (k, omega (arith, lt), is)
 
 by_test : {X R : Type 0} (b : Bool) (w v : X) (o : Option X) → (if b then Some w else o) ≡ Some v → (b ≡ true → w ≡ v → R) → (b ≡ false → o ≡ Some v → R) → R
-by_test true w v o e same differ = same refl (some_same w v e)
+by_test true w v o e same differ = same refl (some_is w v e)
 by_test false w v o e same differ = differ refl e
 
 pub record IsFoundIn {X : Type 0} (p : X → Bool) (xs : List X) (x : X) : Type 0 where

@@ -1,5 +1,5 @@
 -- The machine accepts the placed run of a PIE.
-use Rattle.std.proofs.Common.{◌≡◌, ℕ, ◌+◌, ◌-◌, ◌^◌, ◌<◌, ◌≤◌, List, [], ◌∷◌, length, All, get_or, Option, Some, None, option_and_then, refl, sym, ap, subst, ◌∙◌, arith}
+use Rattle.std.proofs.Common.{◌≡◌, ℕ, ◌+◌, ◌-◌, ◌^◌, ◌<◌, ◌≤◌, List, [], ◌∷◌, length, All, get_or, Option, Some, sym, ap, subst, ◌∙◌, arith}
 use Rattle.std.proofs.lemmas.List.Elements.{All-head, All-tail}
 use Rattle.std.proofs.lemmas.List.Sums.{get_or-le-sum_by}
 use Rattle.goldi_field.specs.Numbers.{IsFelt}
@@ -10,6 +10,7 @@ use Rattle.cairo_model.specs.FieldMemories.{FieldCell, cell_at}
 use Rattle.cairo_model.specs.Layouts.{Fits, base_of, relocated}
 use Rattle.cairo_model.specs.Acceptance.{CheckedRecord, AcceptedWith, HoldsNumbers, start_of}
 use Rattle.cairo_model.specs.MachineAcceptance.{SpanHolds, cell_below}
+use Rattle.cairo_model.proofs.Outcomes.{and_then_gives}
 use Rattle.relocator.specs.Relocations.{KeepsArithmetic, HasRelocated}
 use Rattle.relocator.specs.Staying.{AreIn}
 use Rattle.relocator.specs.LoneCertificates.{stretch_of}
@@ -26,10 +27,6 @@ last_in P u (v ∷ vs) all = last_in P v vs (All-tail P u (v ∷ vs) all)
 end_in : (P : Registers Datum → Type 0) (m : Datum → Option Datum) (s t : Registers Datum) (ss : List (Registers Datum)) → RunsTo value_arithmetic m s ss t → All P ss → P t
 end_in P m s t [] none all = absurd none
 end_in P m s t (u ∷ us) run all = subst P run.1.1 (last_in P u us all)
-
-and_then_gives : {X Y R : Type 0} (o : Option X) (f : X → Option Y) (y : Y) → option_and_then f o ≡ Some y → ((x : X) → o ≡ Some x → f x ≡ Some y → R) → R
-and_then_gives (Some x) f y eq go = go x refl eq
-and_then_gives None f y eq go = absurd (cc)
 
 module _ (bases : List ℕ) (checked : CheckedRecord) (fits : Fits bases checked.pie.sizes) (keeps : KeepsArithmetic bases) (accepted : AcceptedWith checked.pie checked.fact checked.states)
     (cells : List FieldCell) (has : HasRelocated bases (memory_of checked.pie.cells) (cell_at cells)) where

@@ -8,24 +8,22 @@ use Rattle.cairo_model.specs.Values.{Datum, number, place, place_at, Sum, Produc
 use Rattle.cairo_model.specs.Machine.{Registers, value_arithmetic, RunFrom}
 use Rattle.cairo_model.proofs.Inversion.{moves, value_exact}
 use Rattle.cairo_model.specs.Pies.{PieRecord, KeepsRules, IsValueIn, memory_of}
+use Rattle.cairo_model.proofs.Outcomes.{some_is}
 use Rattle.relocator.specs.Relocations.{AllValuesIn}
 use Rattle.relocator.specs.Staying.{AreIn, StatesStay}
 use Rattle.relocator.proofs.PieMemories.{values_in}
 use Rattle.relocator.proofs.Staying.{Closed, step_good}
-
-some_same : {X : Type 0} (x y : X) → Some x ≡ Some y → x ≡ y
-some_same x y e = cc
 
 below : (n : ℕ) → IsFelt (n % prime)
 below n = mod-lt n (lit< tt)
 
 -- a number that is computed modulo the prime lies in each number of segments
 number_in_segments : (count n : ℕ) (c : Datum) → Some (number (n % prime)) ≡ Some c → IsValueIn count c
-number_in_segments count n c e = subst (IsValueIn count) (some_same (number (n % prime)) c e) (below n)
+number_in_segments count n c e = subst (IsValueIn count) (some_is (number (n % prime)) c e) (below n)
 
 -- so does a place that was found near
 near_in_segments : (count s o : ℕ) (c : Datum) (b : Bool) → (b ≡ true → o < 2 ^ 31) → s < count → (if b then Some (place s o) else None) ≡ Some c → IsValueIn count c
-near_in_segments count s o c true near inside e = subst (IsValueIn count) (some_same (place s o) c e) (record { in_segments = inside; is_near = near refl })
+near_in_segments count s o c true near inside e = subst (IsValueIn count) (some_is (place s o) c e) (record { in_segments = inside; is_near = near refl })
 near_in_segments count s o c false near inside e = absurd (cc)
 
 place_in_segments : (count s o : ℕ) (c : Datum) → s < count → place_at s o ≡ Some c → IsValueIn count c

@@ -6,6 +6,7 @@ use Rattle.cairo_model.specs.FirstFailing.{NoneBelow}
 use Rattle.cairo_model.specs.Machine.{Registers, last_of}
 use Rattle.cairo_model.specs.MachineAcceptance.{MachineAccepts}
 use Rattle.cairo_model.proofs.Firsts as firsts
+use Rattle.cairo_model.proofs.Outcomes.{some_is}
 use Rattle.shared_prover_cli.specs.FaultCauses.{IsFaultCause, IsFirstFault, IsFirstState, IsInSpan, IsLastState, IsRowCause, IsThere, HasInstance, HasRangeCell, KeepsEndRule, KeepsStartRule, LeadsOn, fault_number}
 use Rattle.shared_prover_cli.specs.RunFaults.{end_fault, end_tests, fault_of, first_failing, or_else, row_fault, spans_fault, start_fault, start_tests, states_fault}
 use Rattle.shared_prover_cli.specs.SpanFaults.{absent_in, hash_fault, range_fault}
@@ -13,7 +14,7 @@ use Rattle.shared_prover_cli.specs.declared.run_fault.RunFault.{RunFault}
 use Rattle.shared_prover_cli.specs.declared.run_fault.RunFault.TheVariants as faults
 use Rattle.shared_prover_cli.proofs.CheckLaws.{accepted, clean, rows_run}
 use Rattle.shared_prover_cli.proofs.FrameCauses.{end_full, end_is, last_at, start_full, start_is}
-use Rattle.shared_prover_cli.proofs.OrElse.{first_none, first_some, map_none, map_some, some_is}
+use Rattle.shared_prover_cli.proofs.OrElse.{first_none, first_some, map_none, map_some}
 use Rattle.shared_prover_cli.proofs.RowCauses.{IsFirstStop, all_lead, one_row_cause, stop_is}
 use Rattle.shared_prover_cli.proofs.SpanCauses.{hash_full, hash_is, output_full, output_is, range_full, range_is}
 

@@ -6,10 +6,10 @@ use Rattle.cairo_model.specs.Certificates.{CertRecord}
 use Rattle.cairo_model.specs.FirstFailing.{IsFirstFailing}
 use Rattle.cairo_model.specs.Machine.{Registers, last_of}
 use Rattle.cairo_model.specs.MachineAcceptance.{cell_below}
+use Rattle.cairo_model.proofs.Outcomes.{some_is, not_true, not_false}
 use Rattle.shared_prover_cli.specs.FaultCauses.{IsFirstState, IsLastState, IsState, IsThere, KeepsEndRule, KeepsStartRule}
 use Rattle.shared_prover_cli.specs.RunFaults.{first_failing, start_tests, end_tests}
 use Rattle.shared_prover_cli.proofs.CheckLaws.{AllTrue, holds_is, is_held, none_failing}
-use Rattle.shared_prover_cli.proofs.OrElse.{some_is}
 use Rattle.shared_prover_cli.proofs.SpanCauses.{decides_there}
 
 -- ---- a list of tests decides rules, the first test being that of rule 1
@@ -18,14 +18,6 @@ each_true : (tests : List Bool) → AllTrue tests → (k : ℕ) → get_or tests
 each_true [] all k = refl
 each_true (b ∷ bs) all zero = all.0
 each_true (b ∷ bs) all (suc k) = each_true bs all.1 k
-
-from_not_true : (b : Bool) → not b ≡ true → b ≡ false
-from_not_true true e = absurd (cc)
-from_not_true false e = refl
-
-from_not_false : (b : Bool) → not b ≡ false → b ≡ true
-from_not_false true e = refl
-from_not_false false e = absurd (cc)
 
 untrue : (b : Bool) → b ≡ false → b ≡ true → ⊥
 untrue b e f = absurd (cc)
@@ -43,7 +35,7 @@ module _ (tests : List Bool) (Inside Rule : ℕ → Type 0) (decides : (k : ℕ)
       let at = position-Some not tests k true found in
       record {
         inside = inside k at.0;
-        fails = λ kept. untrue (get_or tests k true) (from_not_true (get_or tests k true) at.1) ((decides k at.0).1 kept);
+        fails = λ kept. untrue (get_or tests k true) (not_true (get_or tests k true) at.1) ((decides k at.0).1 kept);
         before = λ j lt. earlier j lt;
       }
     where
@@ -53,7 +45,7 @@ module _ (tests : List Bool) (Inside Rule : ℕ → Type 0) (decides : (k : ℕ)
           let at = position-Some not tests k true found in
           let same : j + 1 ≡ suc j = omega arith in
           let below : j < k = omega (arith, lt) in
-          subst Rule same ((decides j (omega (arith, below, at.0))).0 (from_not_false (get_or tests j true) (at.2 j below)))
+          subst Rule same ((decides j (omega (arith, below, at.0))).0 (not_false (get_or tests j true) (at.2 j below)))
 
 -- ---- the first and the last state
 

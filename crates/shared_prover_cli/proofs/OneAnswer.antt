@@ -1,11 +1,12 @@
 -- A command has one answer to an input.
-use Rattle.std.proofs.Common.{◌≡◌, ℕ, ◌+◌, ◌-◌, ◌<◌, List, length, slice_index, refl, sym, ap, subst, ◌∙◌, arith}
+use Rattle.std.proofs.Common.{◌≡◌, ℕ, ◌+◌, ◌-◌, List, length, slice_index, refl, sym, ap, subst, ◌∙◌, arith}
 use Rattle.std.proofs.lemmas.List.{ext_get_or}
 use Rattle.cairo_model.specs.Acceptance.{CheckedRecord}
 use Rattle.cairo_model.specs.Certificates.{CertRecord, SpanRecord}
 use Rattle.cairo_model.specs.FieldMemories.{FieldCell}
 use Rattle.cairo_model.specs.MachineAcceptance.{MachineAccepts, SpanHolds}
 use Rattle.cairo_model.specs.Verdicts.{Verdict, IsVerdict, admitted, no_file, not_alone}
+use Rattle.cairo_model.proofs.Outcomes.{some_is}
 use Rattle.cert_format.specs.Refusals.{IsFirstCertCause}
 use Rattle.cert_format.specs.Spelling.{CertBytes, spelling}
 use Rattle.cert_format.specs.declared.refusal.CertRefusal.{CertRefusal}
@@ -18,7 +19,6 @@ use Rattle.shared_prover_cli.specs.Texts.{verdict_status, verdict_text}
 use Rattle.shared_prover_cli.specs.declared.command.Command.{Command}
 use Rattle.shared_prover_cli.specs.declared.command.Command.TheVariants.{Replay, Place, Check}
 use Rattle.shared_prover_cli.proofs.FaultLaws.{one_first_fault}
-use Rattle.shared_prover_cli.proofs.OrElse.{some_is}
 
 one_list : (cells : List FieldCell) (span : SpanRecord) (xs ys : List ℕ) → SpanHolds cells span xs → SpanHolds cells span ys → xs ≡ ys
 one_list cells span xs ys p q =

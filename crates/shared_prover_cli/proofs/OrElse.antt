@@ -1,13 +1,11 @@
 -- The first of two options, and an option under a function.
 use Rattle.std.proofs.Common.{◌≡◌, Option, Some, None, option_map, refl}
 use Rattle.shared_prover_cli.specs.RunFaults.{or_else}
+use Rattle.cairo_model.proofs.Outcomes.{some_is}
 
 pub map_none : {A B : Type 0} (f : A → B) (o : Option A) → option_map f o ≡ None → o ≡ None
 map_none f None e = refl
 map_none f (Some x) e = absurd (cc)
-
-pub some_is : {A : Type 0} (x y : A) → Some x ≡ Some y → x ≡ y
-some_is x y e = cc
 
 pub map_some : {A B R : Type 0} (f : A → B) (o : Option A) (y : B) → option_map f o ≡ Some y → ((x : A) → o ≡ Some x → f x ≡ y → R) → R
 map_some f None y e go = absurd (cc)

@@ -5,6 +5,7 @@ use Rattle.cairo_model.specs.FirstFailing.{IsFirstFailing}
 use Rattle.cairo_model.specs.Machine.{Registers, RunFrom, Step, field_arithmetic, next}
 use Rattle.cairo_model.specs.declared.fault.StepFault.{StepFault}
 use Rattle.cairo_model.proofs.Chains.{no_fault, ok_same}
+use Rattle.cairo_model.proofs.Outcomes.{some_is}
 use Rattle.shared_prover_cli.specs.FaultCauses.{IsRowCause, LeadsOn, StopsBy}
 use Rattle.shared_prover_cli.specs.RunFaults.{cause_of, row_fault, same_registers}
 use Rattle.shared_prover_cli.specs.declared.run_fault.RowCause.{RowCause}
@@ -13,7 +14,7 @@ use Rattle.shared_prover_cli.specs.declared.run_fault.RunFault.{RunFault}
 use Rattle.shared_prover_cli.specs.declared.run_fault.RunFault.TheVariants as faults
 use Rattle.shared_prover_cli.proofs.CheckLaws.{no_cause, same_self}
 use Rattle.shared_prover_cli.proofs.FrameCauses.{one_state}
-use Rattle.shared_prover_cli.proofs.OrElse.{first_some, map_none, map_some, some_is}
+use Rattle.shared_prover_cli.proofs.OrElse.{first_some, map_none, map_some}
 
 -- ---- one pair of states
 
