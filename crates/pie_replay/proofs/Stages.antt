@@ -1,6 +1,5 @@
 -- A replay goes by stages. Each of them rules out the causes of one number.
-use Rattle.std.proofs.Common.{◌≡◌, ℕ, ◌+◌, ◌*◌, ◌<◌, ◌≤◌, ◌==◌, if◌then◌else◌, sym, ap, subst, ◌∙◌, inl, inr, arith}
-use Rattle.std.proofs.lemmas.Bool.{cases_lt}
+use Rattle.std.proofs.Common.{◌≡◌, ℕ, ◌+◌, ◌*◌, ◌<◌, ◌≤◌, ◌==◌, if◌then◌else◌, sym, ap, subst, ◌∙◌, arith}
 use Rattle.cairo_model.specs.Acceptance.{HasFrame, HasStopPointer, HasStopPointers, start_of}
 use Rattle.cairo_model.specs.Machine.{Registers, value_arithmetic}
 use Rattle.cairo_model.specs.Pies.{PieRecord, memory_of, segment_size}
