@@ -6,7 +6,8 @@ use Rattle.std.proofs.Math.Seq.{get_or-append_right}
 use Rattle.std.proofs.lemmas.Bool.{cases_lt}
 use Rattle.std.proofs.lemmas.List.{get_or_append_left, get_or_default, take_all, drop_all, take-append-le, drop-append-le, length-append}
 use Rattle.sha2.specs.Sha256.{digest_bytes, sha256, word_at}
-use Rattle.builtin_hash.specs.Instances.{AreWords, IsInstance, input_numbers, input_words, instance_of, output_words, prime, words_of}
+use Rattle.builtin_hash.specs.Instances.{AreWords, IsInstance, input_numbers, input_words, instance_of, output_words, words_of}
+use Rattle.goldi_field.specs.Numbers.{prime}
 
 -- a word's bytes are bytes
 pub byte_fits : (n i : ℕ) → slice_index (to_be_bytes w32 n) i < 256

@@ -3,11 +3,12 @@
 use Rattle.std.specs.Prelude.{◌≡◌, ℕ, ◌<◌, ◌^◌, List, [], ◌∷◌, ◌++◌, length, take, drop, slice_index, All}
 use Rattle.std.specs.List.{flat_map}
 use Rattle.std.specs.Int.{w32, w64, to_be_bytes}
+pub use Rattle.goldi_field.specs.Numbers.{prime}
 use Rattle.sha2.specs.Sha256.{sha256, word_at}
 
--- the order of the field, 2 ^ 64 - 2 ^ 32 + 1
-abbrev pub prime : ℕ
-prime = 18446744069414584321
+-- the cells of an instance
+abbrev pub cells_per_instance : ℕ
+cells_per_instance = 20
 
 -- the 64 bytes that are hashed: eight words of four bytes each, then four numbers of eight bytes
 -- each, high byte first
@@ -41,7 +42,7 @@ output_words cells = take 8 (drop 12 cells)
 
 -- the cells are one instance
 pub record IsInstance (cells : List ℕ) : Type 0 where
-  pub twenty : length cells ≡ 20
+  pub twenty : length cells ≡ cells_per_instance
   pub words : All (λ n. n < 2 ^ 32) (input_words cells)
   pub numbers : All (λ n. n < prime) (input_numbers cells)
   pub digest : output_words cells ≡ instance_of (input_words cells) (input_numbers cells)

@@ -22,6 +22,10 @@ hash_bytes words = flat_map (to_be_bytes w32) words
 abbrev pub hash_text : List ℕ → List ℕ
 hash_text words = encode_lower (hash_bytes words)
 
--- the words that a text of 64 hexadecimal digits of either case stands for
+-- the hexadecimal digits of a hash
+abbrev pub hash_digits : ℕ
+hash_digits = 64
+
+-- the words that a text of so many hexadecimal digits of either case stands for
 abbrev pub words_in_text : List ℕ → List ℕ
 words_in_text text = words_of (result_unwrap_or (decode_of text) [])

@@ -4,10 +4,11 @@ ghost use Rattle.std.specs.Prelude.{◌≡◌, ◌+◌, ◌<◌, ◌^◌, ◌↔
 ghost use Rattle.builtin_hash.specs.Instances.{IsInstance, instance_of, message_of, words_of};
 ghost use Rattle.sha2.specs.Sha256.{sha256, word_at};
 
+use goldi_field::PRIME;
 use sha2::{Digest, Sha256};
 
-/// The order of the field, 2^64 - 2^32 + 1.
-const PRIME: u64 = 18446744069414584321;
+/// The cells of an instance: eight words and four field numbers that are hashed, and eight words of the digest.
+pub const CELLS_PER_INSTANCE: usize = 20;
 
 /// The eight words of the SHA-256 digest (FIPS 180-4) of eight words and four numbers, high byte
 /// first throughout.
@@ -55,7 +56,7 @@ fn word(digest: &[u8; 32], at: usize) -> u32
 
 /// Whether the cells are one instance: the eight words that are hashed, the four field numbers that
 /// are hashed, and the eight words of the digest.
-pub fn check_instance(cells: &[u64; 20]) -> bool
+pub fn check_instance(cells: &[u64; CELLS_PER_INSTANCE]) -> bool
     ensures { IsTrue result ↔ IsInstance cells.now }
 {
     let words = &cells[..8];
@@ -67,7 +68,7 @@ pub fn check_instance(cells: &[u64; 20]) -> bool
         return false;
     }
     are_words(
-        &cells[12..20],
+        &cells[12..CELLS_PER_INSTANCE],
         instance(eight_words(words), four_numbers(numbers)),
     )
 }

@@ -1,7 +1,8 @@
 //! Laws of instances, chains and program hashes, for proofs about what is made of them.
 
 ghost use Rattle.std.specs.Prelude.{◌≡◌, ◌↔◌, ◌+◌, ◌-◌, ◌*◌, ◌%◌, ◌<◌, ◌≤◌, ◌^◌, ℕ, List, [], ◌∷◌, ◌++◌, All, length};
-ghost use Rattle.builtin_hash.specs.Instances.{AreWords, IsInstance, instance_of, prime};
+ghost use Rattle.builtin_hash.specs.Instances.{AreWords, IsInstance, instance_of};
+ghost use Rattle.goldi_field.specs.Numbers.{prime};
 ghost use Rattle.builtin_hash.specs.Chains.{chain_from, chain_of, chain_start, group_at, words_after};
 ghost use Rattle.builtin_hash.specs.Programs.{hash_text, program_hash_of, words_in_text};
 

@@ -7,8 +7,8 @@ pub mod laws;
 mod programs;
 
 pub use crate::chains::chain;
-pub use crate::instances::{check_instance, instance};
-pub use crate::programs::{ProgramHash, program_hash};
+pub use crate::instances::{CELLS_PER_INSTANCE, check_instance, instance};
+pub use crate::programs::{HASH_DIGITS, ProgramHash, program_hash};
 
 #[cfg(test)]
 mod tests;

@@ -4,15 +4,18 @@ ghost use Rattle.std.specs.Prelude.{◌≡◌, ◌-◌, ◌<◌, ◌^◌, ◌↔
 ghost use Rattle.std.specs.Int.{w32, to_be_bytes};
 ghost use Rattle.std.specs.List.{AllPass};
 ghost use Rattle.hex.specs.Hex.{is_hex_digit};
-ghost use Rattle.builtin_hash.specs.Programs.{hash_bytes, hash_text, program_hash_of, words_in_text};
+ghost use Rattle.builtin_hash.specs.Programs.{hash_bytes, hash_digits, hash_text, program_hash_of, words_in_text};
 
 use crate::chains::{continued, started};
 use crate::instances::{digest_words, instance};
 use hex::FromHex;
 use std::{fmt, str};
 
+/// The hexadecimal digits of a hash: two for each of its 32 bytes.
+pub const HASH_DIGITS: usize = 64;
+
 /// The hash of a program under a mask. It is ordered by its words.
-#[derive(Clone, Copy, Debug, PartialEq, Eq, PartialOrd, Ord)]
+#[derive(Clone, Copy, Debug, PartialEq, Eq, PartialOrd, Ord, Hash)]
 pub struct ProgramHash {
     pub words: [u32; 8],
     pub ghost eight: { length words ≡ 8 },
@@ -32,20 +35,20 @@ pub fn program_hash(main: u64, mask: u64, code: &[u64]) -> ProgramHash
 }
 
 impl ProgramHash {
-    /// The hash as 64 lower-case hexadecimal digits in ASCII, eight for each word.
-    pub fn digits(&self) -> [u8; 64]
+    /// The hash as `HASH_DIGITS` lower-case hexadecimal digits in ASCII, eight for each word.
+    pub fn digits(&self) -> [u8; HASH_DIGITS]
         ensures { result ≡ hash_text self.now.words }
     {
-        let mut digits = [0; 64];
+        let mut digits = [0; HASH_DIGITS];
         let Ok(()) = hex::encode_to_slice(self.bytes(), &mut digits) else {
             unreachable!();
         };
         digits
     }
 
-    /// Reads 64 hexadecimal digits of either case, eight for each word.
+    /// Reads `HASH_DIGITS` hexadecimal digits of either case, eight for each word.
     pub fn from_digits(text: &[u8]) -> Option<ProgramHash>
-        ensures found { IsSome result ↔ ((length text.now ≡ 64) × AllPass is_hex_digit text.now) }
+        ensures found { IsSome result ↔ ((length text.now ≡ hash_digits) × AllPass is_hex_digit text.now) }
         ensures value { IfSome result (λ hash. hash.words ≡ words_in_text text.now) }
     {
         match <[u8; 32] as FromHex>::from_hex(text) {

@@ -1,7 +1,7 @@
 -- What a chain of requirements that gave a result went through.
 use Rattle.std.proofs.Common.{◌≡◌, ◌≢◌, ℕ, Bool, true, false, ◌&&◌, ◌==◌, if◌then◌else◌, Option, Some, None, Result, Ok, Err, refl, arith}
 use Rattle.std.proofs.lemmas.Bool.Decides.{nat_tests}
-use Rattle.cairo_model.specs.Machine.{◌>>=◌, required, demanded}
+use Rattle.cairo_model.specs.Machine.Steps.{◌>>=◌, required, demanded}
 
 pub required_gives : {A B E R : Type 0} (e : E) (o : Option A) (f : A → Result B E) (y : B) → required e o >>= f ≡ Ok y → ((x : A) → o ≡ Some x → f x ≡ Ok y → R) → R
 required_gives e (Some x) f y eq go = go x refl eq
@@ -21,13 +21,13 @@ pub demanded_goes : {B E : Type 0} (e : E) (b : Bool) (f : Bool → Result B E) 
 demanded_goes e b f y is rest = rw is rest
 
 -- a chain that ended in a fault had it here or later
-pub required_fails : {A B E R : Type 0} (e : E) (o : Option A) (f : A → Result B E) (d : E) → required e o >>= f ≡ Err d → (o ≡ None → e ≡ d → R) → ((x : A) → f x ≡ Err d → R) → R
-required_fails e (Some x) f d eq here later = later x eq
+pub required_fails : {A B E R : Type 0} (e : E) (o : Option A) (f : A → Result B E) (d : E) → required e o >>= f ≡ Err d → (o ≡ None → e ≡ d → R) → ((x : A) → o ≡ Some x → f x ≡ Err d → R) → R
+required_fails e (Some x) f d eq here later = later x refl eq
 required_fails e None f d eq here later = here refl (cc)
 
-pub demanded_fails : {B E R : Type 0} (e : E) (b : Bool) (f : Bool → Result B E) (d : E) → demanded e b >>= f ≡ Err d → (e ≡ d → R) → (f true ≡ Err d → R) → R
-demanded_fails e true f d eq here later = later eq
-demanded_fails e false f d eq here later = here (cc)
+pub demanded_fails : {B E R : Type 0} (e : E) (b : Bool) (f : Bool → Result B E) (d : E) → demanded e b >>= f ≡ Err d → (b ≡ false → e ≡ d → R) → (b ≡ true → f true ≡ Err d → R) → R
+demanded_fails e true f d eq here later = later refl eq
+demanded_fails e false f d eq here later = here refl (cc)
 
 -- a demand that is made at one opcode
 pub demand_met : (n k : ℕ) (b : Bool) → (if n == k then b else true) ≡ true → n ≡ k → b ≡ true
@@ -35,6 +35,9 @@ demand_met n k b met is = grind (arith, nat_tests)
 
 pub demand_holds : (n k : ℕ) (b : Bool) → (n ≡ k → b ≡ true) → (if n == k then b else true) ≡ true
 demand_holds n k b holds = grind (arith, nat_tests, holds)
+
+pub demand_missed : (n k : ℕ) (b : Bool) → (if n == k then b else true) ≡ false → (n ≡ k) × (b ≡ false)
+demand_missed n k b missed = (grind (arith, nat_tests), grind (arith, nat_tests))
 
 pub both_left : (a b : Bool) → a && b ≡ true → a ≡ true
 both_left true b e = refl

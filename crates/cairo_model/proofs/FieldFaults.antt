@@ -1,7 +1,7 @@
 -- Over the field a result, a jump and a frame are always defined.
 use Rattle.std.proofs.Common.{◌≡◌, ◌≢◌, ℕ, Option, None, Err}
 use Rattle.cairo_word.specs.Word.{Fields}
-use Rattle.cairo_model.specs.Machine.{Arithmetic, Registers, field_arithmetic, next, spelled, found, register_in, op1_from, keeps_call, keeps_assert, result_of, next_pc, next_ap, next_fp}
+use Rattle.cairo_model.specs.Machine.Steps.{Arithmetic, Registers, field_arithmetic, next, spelled, found, register_in, op1_from, keeps_call, keeps_assert, result_of, next_pc, next_ap, next_fp}
 use Rattle.cairo_model.specs.declared.fault.StepFault.{StepFault}
 use Rattle.cairo_model.specs.declared.fault.StepFault.TheVariants.{Fetch, Word, Dst, Op0, Op1, Res, Jump, Call, Assert, Frame}
 use Rattle.cairo_model.specs.Laws.{NeverInField}
@@ -39,17 +39,17 @@ record IsTotal {V : Type 0} (A : Arithmetic V) : Type 0 where
 never : {V : Type 0} (A : Arithmetic V) → IsTotal A → (d : StepFault) → IsOther d → (m : V → Option V) (s : Registers V) → next A m s ≡ Err d → ⊥
 unfolding next
 never A total d other m s fails =
-    required_fails Fetch (m s.pc) _ d fails (λ _. other.fetch) (λ cell in_word.
-    required_fails Word (spelled A cell) _ d in_word (λ _. other.word) (λ f in_dst.
-    required_fails Dst (found A m (register_in s f.dst_reg) f.off_dst) _ d in_dst (λ _. other.dst) (λ dst in_op0.
-    required_fails Op0 (found A m (register_in s f.op0_reg) f.off_op0) _ d in_op0 (λ _. other.op0) (λ op0 in_op1.
-    required_fails Op1 (found A m (op1_from f s op0) f.off_op1) _ d in_op1 (λ _. other.op1) (λ op1 in_res.
-    required_fails Res (result_of A f op0 op1) _ d in_res (λ none _. total.result f op0 op1 none) (λ res in_jump.
-    required_fails Jump (next_pc A f s dst op1 res) _ d in_jump (λ none _. total.pc f s dst op1 res none) (λ pc in_call.
-    demanded_fails Call (keeps_call A f s dst op0) _ d in_call other.call (λ in_assert.
-    demanded_fails Assert (keeps_assert A f dst res) _ d in_assert other.assert (λ in_ap.
-    required_fails Frame (next_ap A f s res) _ d in_ap (λ none _. total.ap f s res none) (λ ap in_fp.
-    required_fails Frame (next_fp A f s dst) _ d in_fp (λ none _. total.fp f s dst none) (λ fp at_end.
+    required_fails Fetch (m s.pc) _ d fails (λ _. other.fetch) (λ cell _ in_word.
+    required_fails Word (spelled A cell) _ d in_word (λ _. other.word) (λ f _ in_dst.
+    required_fails Dst (found A m (register_in s f.dst_reg) f.off_dst) _ d in_dst (λ _. other.dst) (λ dst _ in_op0.
+    required_fails Op0 (found A m (register_in s f.op0_reg) f.off_op0) _ d in_op0 (λ _. other.op0) (λ op0 _ in_op1.
+    required_fails Op1 (found A m (op1_from f s op0) f.off_op1) _ d in_op1 (λ _. other.op1) (λ op1 _ in_res.
+    required_fails Res (result_of A f op0 op1) _ d in_res (λ none _. total.result f op0 op1 none) (λ res _ in_jump.
+    required_fails Jump (next_pc A f s dst op1 res) _ d in_jump (λ none _. total.pc f s dst op1 res none) (λ pc _ in_call.
+    demanded_fails Call (keeps_call A f s dst op0) _ d in_call (λ _. other.call) (λ _ in_assert.
+    demanded_fails Assert (keeps_assert A f dst res) _ d in_assert (λ _. other.assert) (λ _ in_ap.
+    required_fails Frame (next_ap A f s res) _ d in_ap (λ none _. total.ap f s res none) (λ ap _ in_fp.
+    required_fails Frame (next_fp A f s dst) _ d in_fp (λ none _. total.fp f s dst none) (λ fp _ at_end.
     no_fault (record { pc = pc; ap = ap; fp = fp }) d at_end)))))))))))
 
 field_total : IsTotal field_arithmetic

@@ -1,7 +1,7 @@
 -- First indices and first causes.
 use Rattle.std.proofs.Common.{◌≡◌, ℕ, ◌+◌, inl, inr, arith}
 use Rattle.std.proofs.lemmas.Bool.{cases_lt}
-use Rattle.cairo_model.specs.FirstFailing.{IsFirstCause, IsFirstFailing, NoneBelow}
+use Rattle.cairo_model.specs.Refusals.FirstFailing.{IsFirstCause, IsFirstFailing, NoneBelow}
 
 -- there is one first index at which something fails
 pub one_failing : (Inside Good : ℕ → Type 0) (i j : ℕ) → IsFirstFailing Inside Good i → IsFirstFailing Inside Good j → i ≡ j

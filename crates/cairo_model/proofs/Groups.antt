@@ -4,7 +4,7 @@ use Rattle.std.proofs.Math.Nat.{div-add-mod, mod-lt}
 use Rattle.std.proofs.lemmas.Bool.{cases_lt}
 use Rattle.std.proofs.lemmas.List.{ext_get_or, get_or-drop, get_or-take, get_or_append_left, get_or_push, length-append, length-take-le, length-drop}
 use Rattle.builtin_hash.specs.Instances.{IsInstance}
-use Rattle.cairo_model.specs.BuiltinCells.{AreInstances}
+use Rattle.cairo_model.specs.Pie.BuiltinCells.{AreInstances}
 
 -- `Is o n` says that n stands at place o. At one place stands one number.
 module _ (Is : ℕ → ℕ → Type 0) (one : (o a b : ℕ) → Is o a → Is o b → a ≡ b) where

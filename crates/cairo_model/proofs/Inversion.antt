@@ -2,8 +2,9 @@
 use Rattle.std.proofs.Common.{◌≡◌, ℕ, true, ◌&&◌, ◌==◌, Option, Some, None, Ok, refl, ap, ◌∙◌, arith}
 use Rattle.std.proofs.lemmas.Bool.Decides.{nat_tests}
 use Rattle.cairo_word.specs.Word.{Fields}
-use Rattle.cairo_model.specs.Values.{Datum, number, place, same_datum}
-use Rattle.cairo_model.specs.Machine.{Arithmetic, Registers, IsExact, field_arithmetic, value_arithmetic, next, Moves, is_value, keeps_call, after}
+use Rattle.cairo_model.specs.Machine.Steps.{IsExact}
+use Rattle.cairo_model.specs.Machine.Values.{Datum, number, place, same_datum}
+use Rattle.cairo_model.specs.Machine.Steps.{Arithmetic, Registers, field_arithmetic, value_arithmetic, next, Moves, is_value, keeps_call, after}
 use Rattle.cairo_model.specs.declared.fault.StepFault.TheVariants.{Fetch, Word, Dst, Op0, Op1, Res, Jump, Call, Assert, Frame}
 use Rattle.cairo_model.specs.Laws.{Agree}
 use Rattle.cairo_model.proofs.Chains.{required_gives, demanded_gives, ok_same, required_goes, demanded_goes, demand_met, demand_holds, both_left, both_right, both}
@@ -13,10 +14,10 @@ module _ {V : Type 0} (A : Arithmetic V) (exact : IsExact A) where
   value_is None v e = absurd (cc)
   value_is (Some u) v e = ap Some (exact.same_is u v e)
 
-  is_that_value : (o : Option V) (v : V) → o ≡ Some v → is_value A o v ≡ true
+  pub is_that_value : (o : Option V) (v : V) → o ≡ Some v → is_value A o v ≡ true
   is_that_value o v e = rw e (exact.is_same v v refl)
 
-  call_met : (f : Fields) (s : Registers V) (dst op0 : V) → keeps_call A f s dst op0 ≡ true → f.opcode ≡ 1 → (after A f s ≡ Some op0) × (dst ≡ s.fp)
+  pub call_met : (f : Fields) (s : Registers V) (dst op0 : V) → keeps_call A f s dst op0 ≡ true → f.opcode ≡ 1 → (after A f s ≡ Some op0) × (dst ≡ s.fp)
   call_met f s dst op0 keeps is =
       let demand = demand_met f.opcode 1 (is_value A (after A f s) op0 && A.same dst s.fp) keeps is in
       (value_is (after A f s) op0 (both_left _ _ demand), exact.same_is dst s.fp (both_right (is_value A (after A f s) op0) _ demand))

@@ -4,8 +4,13 @@ pub mod Inversion
 pub mod Rules
 pub mod NumberLists
 pub mod RunLaws
+pub mod TypeFacts
+pub mod FactLemmas
+pub mod StepCauses
 pub mod Searching
+pub mod Windows
 pub mod CellLemmas
+pub mod Narrowing
 pub mod Stretches
 pub mod Groups
 pub mod Firsts
@@ -16,3 +21,9 @@ pub mod Bytes
 pub mod Magics
 pub mod Outcomes
 pub mod Rising
+pub mod Finding
+pub mod PieMemories
+pub mod RunParts
+pub mod RunsStay
+pub mod Staying
+pub mod NumberTests

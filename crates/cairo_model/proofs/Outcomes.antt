@@ -1,6 +1,6 @@
 -- What chains of answers and tests gave, by what follows from their outcome.
 use Rattle.std.proofs.Common.{◌≡◌, Bool, true, false, cond, not, Option, Some, None, option_and_then, Result, Ok, Err, refl, ap}
-use Rattle.cairo_model.specs.Machine.{◌>>=◌, required}
+use Rattle.cairo_model.specs.Machine.Steps.{◌>>=◌, required}
 
 pub bind_gives : {A B E R : Type 0} (r : Result A E) (f : A → Result B E) (y : B) → r >>= f ≡ Ok y → ((x : A) → r ≡ Ok x → f x ≡ Ok y → R) → R
 bind_gives (Ok x) f y e go = go x refl e

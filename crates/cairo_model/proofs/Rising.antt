@@ -2,7 +2,7 @@
 use Rattle.std.proofs.Common.{◌≡◌, ℕ, zero, suc, ◌+◌, ◌<◌, true, List, [], ◌∷◌, Option, Some, None, refl, arith}
 use Rattle.std.specs.List.Sorted.{IsStrictlyIncreasing}
 use Rattle.std.proofs.lemmas.Bool.{ltb-true, lt-ltb}
-use Rattle.cairo_model.specs.Keys.{is_after}
+use Rattle.cairo_model.specs.Working.Keys.{is_after}
 
 -- each number is above the one before
 abbrev pub Chain : Option ℕ → List ℕ → Type 0

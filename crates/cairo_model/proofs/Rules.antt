@@ -4,15 +4,12 @@ use Rattle.std.proofs.Math.Nat.{mod-lt}
 use Rattle.std.proofs.lemmas.Bool.Decides.{nat_tests}
 use Rattle.cairo_word.specs.Word.{Fields, fields_of, word_fault_of, mixture_fault_of, is_choice, is_jump_mix, bits_of}
 use Rattle.cairo_word.specs.declared.word.WordFault.{WordFault}
+use Rattle.cairo_model.specs.Machine.Steps.{IsExact}
 use Rattle.cairo_model.proofs.Outcomes.{and_then_gives, and_then_goes, not_false}
 use Rattle.cairo_model.proofs.Inversion.{moves, moved_so}
+use Rattle.cairo_model.proofs.NumberTests.{eq_is, is_eq, is_not, not_is, pick}
 use Rattle.cairo_model.specs.Laws.{RuleAgrees}
-use Rattle.cairo_model.specs.Machine.{Arithmetic, Registers, Moves, Transition, IsExact, moved, found, after, decoded, result_of}
-
--- choices by a test
-pick : {X : Type 0} (P : X → Type 0) (b : Bool) (u v : X) → (b ≡ true → P u) → (b ≡ false → P v) → P (if b then u else v)
-pick P true u v l r = l refl
-pick P false u v l r = r refl
+use Rattle.cairo_model.specs.Machine.Steps.{Arithmetic, Registers, Moves, Transition, moved, found, after, decoded, result_of}
 
 first_of : {X : Type 0} (P : X → Type 0) (b : Bool) (u v : X) → b ≡ true → P (if b then u else v) → P u
 first_of P true u v is p = p
@@ -21,18 +18,6 @@ first_of P false u v is p = absurd (cc)
 second_of : {X : Type 0} (P : X → Type 0) (b : Bool) (u v : X) → b ≡ false → P (if b then u else v) → P v
 second_of P true u v is p = absurd (cc)
 second_of P false u v is p = p
-
-is_eq : (n k : ℕ) → n ≡ k → (n == k) ≡ true
-is_eq n k e = grind (arith, nat_tests)
-
-eq_is : (n k : ℕ) → (n == k) ≡ true → n ≡ k
-eq_is n k e = grind (arith, nat_tests)
-
-is_not : (n k : ℕ) → n ≢ k → (n == k) ≡ false
-is_not n k e = grind (arith, nat_tests)
-
-not_is : (n k : ℕ) → (n == k) ≡ false → n ≢ k
-not_is n k e = grind (arith, nat_tests)
 
 -- what the fields of a defined word keep
 pub record Shaped (a b c d e : ℕ) : Type 0 where

@@ -1,10 +1,12 @@
 -- A run is told by its start and its length.
 use Rattle.std.proofs.Common.{◌≡◌, ℕ, ◌<◌, List, [], ◌∷◌, ◌++◌, length, get_or, Option, Some, Result, Ok, Err, refl, sym, ap, ◌∙◌, subst, arith}
 use Rattle.std.proofs.lemmas.List.{ext_get_or}
-use Rattle.cairo_model.specs.Values.{Datum, number}
-use Rattle.cairo_model.specs.Machine.{Arithmetic, Registers, next, Step, RunFrom, RunsTo, last_of}
-use Rattle.cairo_model.specs.Pies.{MemoryCell, PieRecord, segment_size}
-use Rattle.cairo_model.specs.Acceptance.{HoldsNumbers, IsolatedRun, AcceptedWith, FactRecord, IsFactOf, builtin_mask}
+use Rattle.cairo_model.specs.Machine.Values.{Datum, number}
+use Rattle.cairo_model.specs.Machine.Steps.{Arithmetic, Registers, next, Step, RunFrom, RunsTo, last_of}
+use Rattle.cairo_model.specs.Pie.Records.{MemoryCell, PieRecord, segment_size}
+use Rattle.cairo_model.specs.Pie.Acceptance.{HoldsNumbers, IsolatedRun, AcceptedWith, FactRecord, IsFactOf}
+use Rattle.cairo_model.specs.Segments.{builtin_mask, program_segment, output_segment}
+use Rattle.cairo_model.proofs.RunParts.{runs_join, ends_join}
 use Rattle.builtin_hash.specs.Programs.{program_hash_of}
 use Rattle.cairo_model.specs.declared.fault.StepFault.{StepFault}
 
@@ -54,17 +56,10 @@ module _ {V : Type 0} (A : Arithmetic V) (m : V → Option V) where
 
 -- a run goes on by one step
 module _ {V : Type 0} (A : Arithmetic V) (m : V → Option V) where
-  run_longer : (s : Registers V) (ss : List (Registers V)) (t : Registers V) → RunFrom A m s ss → Step A m (last_of s ss) t → RunFrom A m s (ss ++ (t ∷ []))
-  run_longer s [] t run step = (step, tt)
-  run_longer s (u ∷ us) t run step = (run.0, run_longer u us t run.1 step)
-
-  last_longer : (s : Registers V) (ss : List (Registers V)) (t : Registers V) → last_of s (ss ++ (t ∷ [])) ≡ t
-  last_longer s [] t = refl
-  last_longer s (u ∷ us) t = last_longer u us t
-
   pub runs_on : (s : Registers V) (ss : List (Registers V)) (t u : Registers V) → RunsTo A m s ss t → Step A m t u → RunsTo A m s (ss ++ (u ∷ [])) u
   runs_on s [] t u none step = absurd none
-  runs_on s (v ∷ vs) t u run step = (run.0, (run_longer v vs u run.1.0 (subst (λ (x : Registers V). Step A m x u) (sym run.1.1) step), last_longer v vs u))
+  runs_on s (v ∷ vs) t u run step =
+      (run.0, (runs_join A m v vs (u ∷ []) run.1.0 (subst (λ (x : Registers V). Step A m x u) (sym run.1.1) step, tt), ends_join A m v vs (u ∷ [])))
 
 pub one_isolated_run : (pie : PieRecord) (us vs : List (Registers Datum)) → IsolatedRun pie us → IsolatedRun pie vs → us ≡ vs
 one_isolated_run pie us vs run other = (same_runs _ _ _ us run.last vs other.last run.runs other.runs (omega (arith, run.count, other.count))).0
@@ -85,9 +80,9 @@ fact_with program outputs = record { program = program; outputs = outputs }
 -- a PIE has one fact
 pub one_fact : (pie : PieRecord) (f g : FactRecord) → IsFactOf pie f → IsFactOf pie g → f ≡ g
 one_fact pie f g is other =
-    let code : is.code ≡ other.code = one_content pie.cells 0 (segment_size pie 0) is.code other.code is.has_code other.has_code in
+    let code : is.code ≡ other.code = one_content pie.cells program_segment (segment_size pie program_segment) is.code other.code is.has_code other.has_code in
     let program : f.program ≡ g.program = is.is_program ∙ ap (λ (c : List ℕ). program_hash_of pie.main builtin_mask c) code ∙ sym other.is_program in
-    let outputs : f.outputs ≡ g.outputs = one_content pie.cells 2 (segment_size pie 2) f.outputs g.outputs is.has_outputs other.has_outputs in
+    let outputs : f.outputs ≡ g.outputs = one_content pie.cells output_segment (segment_size pie output_segment) f.outputs g.outputs is.has_outputs other.has_outputs in
     ap (λ (p : List ℕ). fact_with p f.outputs) program ∙ ap (fact_with g.program) outputs
 
 pub one_acceptance : (pie : PieRecord) (f g : FactRecord) (us vs : List (Registers Datum)) → AcceptedWith pie f us → AcceptedWith pie g vs → (f ≡ g) × (us ≡ vs)

@@ -8,7 +8,7 @@ use Rattle.std.proofs.lemmas.List.{get_or-map, length-map}
 use Rattle.std.proofs.lemmas.List.Sorted.{IsNonDecreasingBy-from_default}
 use Rattle.std.proofs.lemmas.List.Kept.{AllPairs-from_increasing}
 use Rattle.std.proofs.lemmas.Bool.Decides.{nat_tests}
-use Rattle.cairo_model.specs.Keys.{IsKeyAt, IsGapFor}
+use Rattle.cairo_model.specs.Working.Keys.{IsKeyAt, IsGapFor}
 
 -- an element of a list that has one
 at_some : {X R : Type 0} (xs : List X) (i : ℕ) → i < length xs → (X → R) → R

@@ -1,7 +1,7 @@
 -- When two stretches of addresses share none.
 use Rattle.std.proofs.Common.{◌≡◌, ◌≢◌, ◌↔◌, ℕ, ◌+◌, ◌-◌, ◌<◌, ◌≤◌, Bool, true, false, nat_le, refl, arith}
 use Rattle.std.proofs.lemmas.Bool.Decides.{nat_tests}
-use Rattle.cairo_model.specs.Layouts.{ShareNone}
+use Rattle.cairo_model.specs.Pie.Layouts.{ShareNone}
 
 pub share_none_below : (b s c t : ℕ) → b + s ≤ c → ShareNone b s c t
 share_none_below b s c t le o q p r e = omega arith

@@ -32,7 +32,7 @@ pub struct Cert {
 
 impl Model for TaskMark {
     ghost use Rattle.std.specs.Prelude.{map};
-    ghost use Rattle.cairo_model.specs.Certificates.{MarkRecord};
+    ghost use Rattle.cairo_model.specs.Certificate.Records.{MarkRecord};
 
     ghost Value = { MarkRecord };
 
@@ -41,12 +41,12 @@ impl Model for TaskMark {
 
 impl Model for Cert {
     ghost use Rattle.std.specs.Prelude.{map};
-    ghost use Rattle.cairo_model.specs.Certificates.{CertRecord, HasSpelling};
+    ghost use Rattle.cairo_model.specs.Certificate.Records.{CertRecord, HasSpelling};
 
     ghost Value = { CertRecord };
 
-    ghost use Rattle.cairo_model.specs.CertificateViews.{kind_of, span_of};
-    ghost use Rattle.cairo_model.specs.Views.{field_registers};
+    ghost use Rattle.cairo_model.specs.Views.Certificate.{kind_of, span_of};
+    ghost use Rattle.cairo_model.specs.Views.Machine.{field_registers};
 
     ghost view = { λ c. record { kind = kind_of c.kind; output = span_of c.output; range = span_of c.range; hash = span_of c.hash; tasks = c.tasks.items; cells = c.cells; states = map field_registers c.states.items } };
 

@@ -1,7 +1,7 @@
 ghost use Rattle.std.specs.Prelude.{◌≡◌, map, IfOk};
-ghost use Rattle.cairo_model.specs.Acceptance.{AcceptedWith};
-ghost use Rattle.cairo_model.specs.Shapes.{shape_of};
-ghost use Rattle.cairo_model.specs.Views.{registers};
+ghost use Rattle.cairo_model.specs.Pie.Acceptance.{AcceptedWith};
+ghost use Rattle.cairo_model.specs.Pie.Shapes.{shape_of};
+ghost use Rattle.cairo_model.specs.Views.Machine.{registers};
 
 use crate::fact::Fact;
 use crate::pie::Pie;
@@ -21,8 +21,8 @@ pub struct Checked {
 
 impl Model for Checked {
     ghost use Rattle.std.specs.Prelude.{map};
-    ghost use Rattle.cairo_model.specs.Acceptance.{CheckedRecord, AcceptedWith};
-    ghost use Rattle.cairo_model.specs.Views.{registers};
+    ghost use Rattle.cairo_model.specs.Pie.Acceptance.{CheckedRecord, AcceptedWith};
+    ghost use Rattle.cairo_model.specs.Views.Machine.{registers};
 
     ghost Value = { CheckedRecord };
 

@@ -4,6 +4,7 @@ use crate::outputs::Outputs;
 use builtin_hash::ProgramHash;
 use std::alloc::{AllocError, Global};
 use std::cmp::Ordering;
+use std::hash::{Hash, Hasher};
 use std::marker::Model;
 
 /// What a run shows: the program of this hash gave these outputs. Facts are ordered by the words of the hash, and then by
@@ -15,7 +16,7 @@ pub struct Fact {
 }
 
 impl Model for Fact {
-    ghost use Rattle.cairo_model.specs.Acceptance.{FactRecord};
+    ghost use Rattle.cairo_model.specs.Pie.Acceptance.{FactRecord};
 
     ghost Value = { FactRecord };
 
@@ -37,7 +38,7 @@ impl Fact {
 impl PartialEq for Fact {
     ghost use Rattle.std.proofs.Common.{rules};
     ghost use Rattle.std.specs.Cmp.Rules.{comparing};
-    ghost use Rattle.cairo_model.specs.FactOrder.{same_fact};
+    ghost use Rattle.cairo_model.specs.Pie.FactOrder.{same_fact};
 
     ghost eq = { same_fact };
 
@@ -60,7 +61,7 @@ impl PartialOrd for Fact {
     ghost use Rattle.std.specs.Cmp.{partial_order_from_own_ties};
     ghost use Rattle.std.specs.Cmp.Rules.{comparing};
     ghost use Rattle.std.specs.Ordering.{as_partial_cmp};
-    ghost use Rattle.cairo_model.specs.FactOrder.{fact_order};
+    ghost use Rattle.cairo_model.specs.Pie.FactOrder.{fact_order};
 
     ghost partial_cmp = { as_partial_cmp fact_order };
 
@@ -74,7 +75,7 @@ impl PartialOrd for Fact {
 impl Ord for Fact {
     ghost use Rattle.std.proofs.Common.{rules};
     ghost use Rattle.std.specs.Cmp.Rules.{comparing};
-    ghost use Rattle.cairo_model.specs.FactOrder.{fact_order};
+    ghost use Rattle.cairo_model.specs.Pie.FactOrder.{fact_order};
 
     ghost cmp = { fact_order };
 
@@ -88,5 +89,20 @@ impl Ord for Fact {
         self.program
             .cmp(&other.program)
             .then(self.outputs.cmp(&other.outputs))
+    }
+}
+
+impl Hash for Fact {
+    ghost use Rattle.std.proofs.Common.{rules};
+    ghost use Rattle.std.specs.Cmp.Rules.{hashing};
+    ghost use Rattle.cairo_model.specs.Pie.Facts.{fact_fed};
+
+    ghost hash_input = { fact_fed };
+
+    ghost respects_eq = { Prim.search (hashing, rules) };
+
+    fn hash<H: Hasher>(&self, state: &mut H) {
+        self.program.hash(state);
+        self.outputs.hash(state);
     }
 }

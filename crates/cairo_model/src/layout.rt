@@ -1,5 +1,6 @@
 ghost use Rattle.std.specs.Prelude.{◌≡◌, ◌↔◌, ◌+◌, ◌<◌, ◌≤◌, IsTrue, map, length};
-ghost use Rattle.cairo_model.specs.Layouts.{Fits, base_of, IsInBounds, AreInBounds, ShareNone, IsApartFrom, IsApart, AreApart, KeepApart};
+ghost use Rattle.cairo_model.specs.Pie.Layouts.{Fits, base_of, IsInBounds, AreInBounds, ShareNone, IsApartFrom, IsApart, AreApart};
+ghost use Rattle.cairo_model.specs.Working.Apart.{KeepApart};
 
 use crate::pie::Pie;
 use goldi_field::Felt;

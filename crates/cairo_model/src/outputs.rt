@@ -3,6 +3,7 @@ ghost use Rattle.std.specs.Prelude.{◌≡◌, map, IfOk};
 use goldi_field::Felt;
 use std::alloc::{AllocError, Global};
 use std::cmp::Ordering;
+use std::hash::{Hash, Hasher};
 use std::marker::Model;
 
 /// The outputs of a run: the numbers of its output segment, in order.
@@ -93,5 +94,20 @@ impl Ord for Outputs {
 
     fn cmp(&self, other: &Outputs) -> Ordering {
         self.as_slice().cmp(other.as_slice())
+    }
+}
+
+impl Hash for Outputs {
+    ghost use Rattle.std.specs.Hash as fed;
+    ghost use Rattle.std.proofs.Common.{rules};
+    ghost use Rattle.std.specs.Cmp.Rules.{hashing};
+    ghost use Rattle.cairo_model.specs.Pie.Facts.{outputs_fed};
+
+    ghost hash_input = { outputs_fed };
+
+    ghost respects_eq = { Prim.search (hashing, rules) };
+
+    fn hash<H: Hasher>(&self, state: &mut H) {
+        self.list.as_slice().hash(state);
     }
 }

@@ -21,11 +21,11 @@ pub struct Pie {
 
 impl Model for Pie {
     ghost use Rattle.std.specs.Prelude.{map};
-    ghost use Rattle.cairo_model.specs.Pies.{PieRecord};
+    ghost use Rattle.cairo_model.specs.Pie.Records.{PieRecord};
 
     ghost Value = { PieRecord };
 
-    ghost use Rattle.cairo_model.specs.PieViews.{memory_cell};
+    ghost use Rattle.cairo_model.specs.Views.Pie.{memory_cell};
 
     ghost view = { λ p. record { main = p.main; steps = p.steps; sizes = p.sizes.items; cells = map memory_cell p.cells.items } };
 }

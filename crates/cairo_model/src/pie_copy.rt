@@ -1,5 +1,6 @@
-ghost use Rattle.std.specs.Prelude.{◌≡◌, ◌≤◌, ◌^◌, ◌<◌, length, sum, IfOk};
-ghost use Rattle.cairo_model.specs.Pies.{KeepsRules};
+ghost use Rattle.std.specs.Prelude.{◌≡◌, ◌≤◌, ◌<◌, length, sum, IfOk};
+ghost use Rattle.cairo_model.specs.Limits.{most_segments};
+ghost use Rattle.cairo_model.specs.Pie.Records.{KeepsRules};
 
 use crate::pie::Pie;
 use std::alloc::{AllocError, Global};
@@ -25,7 +26,7 @@ pub(crate) fn size_in_all(pie: &Pie) -> u32
 }
 
 fn total(sizes: &[u32]) -> u64
-    requires { length sizes.now ≤ 64 }
+    requires { length sizes.now ≤ most_segments }
     ensures { result ≡ sum sizes.now }
 {
     sizes.iter().map(|size| u64::from(*size)).sum()

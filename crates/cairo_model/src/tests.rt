@@ -2,6 +2,7 @@ use super::*;
 use builtin_hash::{ProgramHash, program_hash};
 use goldi_field::Felt;
 use std::cmp::Ordering;
+use std::hash::{DefaultHasher, Hash, Hasher};
 use std::test::Fail;
 
 fn fact_of(rt: &HostRuntime, program: ProgramHash, numbers: &[u32]) -> Result<Fact, Fail> {
@@ -53,5 +54,22 @@ fn facts_are_ordered_by_hash_and_then_by_outputs(rt: HostRuntime) -> Result<(), 
 fn a_copy_of_a_fact_is_equal(rt: HostRuntime) -> Result<(), Fail> {
     let fact = fact_of(&rt, program_hash(0, 7, &[1, 2]), &[5, 0])?;
     assert!(rt; fact.try_copy(rt.alloc())? == fact);
+    Ok(())
+}
+
+fn hash_of(fact: &Fact) -> u64 {
+    let mut hasher = DefaultHasher::new();
+    fact.hash(&mut hasher);
+    hasher.finish()
+}
+
+#[test]
+fn facts_hash_by_program_and_outputs(rt: HostRuntime) -> Result<(), Fail> {
+    let here = program_hash(0, 7, &EMPTY);
+    let there = program_hash(0, 7, &FIVE);
+    let fact = fact_of(&rt, here, &[7, 9])?;
+    assert_eq!(rt; hash_of(&fact), hash_of(&fact_of(&rt, here, &[7, 9])?));
+    assert_ne!(rt; hash_of(&fact), hash_of(&fact_of(&rt, here, &[7])?));
+    assert_ne!(rt; hash_of(&fact), hash_of(&fact_of(&rt, there, &[7, 9])?));
     Ok(())
 }

@@ -1,10 +1,11 @@
-ghost use Rattle.std.specs.Prelude.{◌≡◌, IsTrue};
+ghost use Rattle.std.specs.Prelude.{◌≡◌};
 ghost use Rattle.std.specs.Option.{option_map};
-ghost use Rattle.cairo_model.specs.Values.{Sum, Difference, Product, is_zero_datum, place_at};
-ghost use Rattle.cairo_model.specs.Views.{datum};
-ghost use Rattle.goldi_field.specs.Numbers.{sum_of, difference_of};
+ghost use Rattle.cairo_model.specs.Machine.Values.{Sum, Difference, Product, is_zero_datum, place_at};
+ghost use Rattle.cairo_model.specs.Views.Machine.{datum};
+ghost use Rattle.goldi_field.specs.Numbers.{sum_of};
 
 use crate::felts::felt_of;
+use crate::limits::OFFSET_LIMIT;
 use crate::place::Place;
 use crate::value::Value;
 use goldi_field::Felt;
@@ -58,7 +59,7 @@ fn moved(place: Place, by: Felt) -> Option<Value>
     ensures { option_map datum result ≡ place_at place.segment (sum_of place.offset by.number) }
 {
     let offset = (place.offset as u128 + by.value() as u128) % goldi_field::PRIME as u128;
-    if offset < 0x8000_0000 {
+    if offset < u128::from(OFFSET_LIMIT) {
         Some(Value::At(Place {
             segment: place.segment,
             offset: offset as u32,

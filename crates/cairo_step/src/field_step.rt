@@ -1,18 +1,17 @@
 ghost use Rattle.std.specs.Prelude.{◌≡◌, ok_or, option_map, Some, MatchResult, IfErr};
-ghost use Rattle.cairo_model.specs.FieldMemories.{cell_at};
-ghost use Rattle.cairo_model.specs.Machine.{Registers, field_arithmetic, Step, StepFaultOf, found, spelled, after as after_of, register_in, op1_from, result_of, next_pc as next_pc_of, next_ap as next_ap_of, next_fp as next_fp_of, keeps_call as call_test, keeps_assert as assert_test};
-ghost use Rattle.cairo_model.specs.Views.{field_registers};
+ghost use Rattle.cairo_model.specs.Machine.FieldMemories.{cell_at};
+ghost use Rattle.cairo_model.specs.Machine.Steps.{Registers, field_arithmetic, Step, StepFaultOf, found, spelled, after as after_of, register_in, op1_from, result_of, next_pc as next_pc_of, next_ap as next_ap_of, next_fp as next_fp_of, keeps_call as call_test, keeps_assert as assert_test};
+ghost use Rattle.cairo_model.specs.Views.Machine.{field_registers};
 ghost use Rattle.cairo_step.specs.FieldFaults.{IsFieldFault};
 ghost use Rattle.cairo_word.specs.Instructions.{fields};
 
-use crate::offsets::{offset_felt, size_felt};
-use cairo_model::{Cells, FieldState, StepFault, felt_of};
+use cairo_model::{Cells, FieldState, StepFault, felt_of, offset_felt, size_felt};
 use cairo_word::{Instruction, Reg, decode};
 use goldi_field::Felt;
 
 /// The state after one step over these cells, or the first line of the table of faults that the state meets
 /// (docs/MACHINE.md). Takes no memory.
-#[tactic(auto, unfolding(cairo_model::specs::Machine::next))]
+#[tactic(auto, unfolding(cairo_model::specs::Machine::Steps::next))]
 pub fn step(memory: &Cells, state: FieldState) -> Result<FieldState, StepFault>
     ensures answer { MatchResult result
         (λ after. Step field_arithmetic (cell_at memory.now) (field_registers state) (field_registers after))

@@ -1,7 +1,7 @@
 //! The run of a program that writes 5, placed in the field's memory: its cells and states are a worked example.
 
 ghost use Rattle.std.specs.Prelude.{map, OnOk};
-ghost use Rattle.cairo_model.specs.FieldMemories.{AddressesRise, field_cell};
+ghost use Rattle.cairo_model.specs.Machine.FieldMemories.{AddressesRise, field_cell};
 
 use crate::step;
 use cairo_model::{Cells, FieldState, StepFault, felt_of};

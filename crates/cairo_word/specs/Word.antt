@@ -22,9 +22,17 @@ pub record Fields : Type 0 where
 abbrev pub bits_of : ℕ → ℕ → ℕ → ℕ
 bits_of w place width = w / 2 ^ place % 2 ^ width
 
--- the offset kept in the 16 bits from place on, with 2 ^ 15 added to it
+-- the bits of a word that keep an offset
+abbrev pub offset_bits : ℕ
+offset_bits = 16
+
+-- what is added to an offset to keep it: half of what its bits can hold
+abbrev pub offset_bias : ℕ
+offset_bias = 32768
+
+-- the offset kept in the bits from place on
 abbrev pub offset_of : ℕ → ℕ → ℤ
-offset_of w place = pos (bits_of w place 16) -ℤ pos 32768
+offset_of w place = pos (bits_of w place offset_bits) -ℤ pos offset_bias
 
 -- the register that a bit names: the allocation pointer at 0, the frame pointer at 1
 abbrev pub register_of : ℕ → Reg

@@ -1,8 +1,13 @@
 ghost use Rattle.cairo_word.specs.Instructions.{fields};
+ghost use Rattle.cairo_word.specs.Working.Widths.{word_bits};
 ghost use Rattle.cairo_word.specs.Word.{fields_of, word_fault_of, offset_of, bits_of, register_of, mixture_fault_of, instruction_size, is_choice as choice_test, is_jump_mix as jump_mix_test, is_call_mix as call_mix_test};
 ghost use Rattle.std.specs.Prelude.{◌≡◌, ◌<◌, IfOk, IfErr, OnOk, Some, None};
 
+use crate::encoding::OFFSET_BIAS;
 use crate::word::{Instruction, Reg, WordFault};
+
+// The bits of an offset, at the low end of a word.
+const OFFSET_MASK: u64 = 0xffff;
 
 /// The instruction that a word spells, or the first fault of the word.
 pub fn decode(word: u64) -> Result<Instruction, WordFault>
@@ -92,7 +97,7 @@ fn offset(word: u64, place: u32) -> i16
     requires { place < 48 }
     ensures { result ≡ offset_of word place }
 {
-    ((word >> place & 0xffff) as i32 - 0x8000) as i16
+    ((word >> place & OFFSET_MASK) as i32 - OFFSET_BIAS) as i16
 }
 
 fn register(bit: u8) -> Reg
@@ -102,21 +107,21 @@ fn register(bit: u8) -> Reg
 }
 
 fn one_bit(word: u64, place: u32) -> u8
-    requires { place < 64 }
+    requires { place < word_bits }
     ensures { result ≡ bits_of word place 1 }
 {
     (word >> place & 1) as u8
 }
 
 fn two_bits(word: u64, place: u32) -> u8
-    requires { place < 64 }
+    requires { place < word_bits }
     ensures { result ≡ bits_of word place 2 }
 {
     (word >> place & 3) as u8
 }
 
 fn three_bits(word: u64, place: u32) -> u8
-    requires { place < 64 }
+    requires { place < word_bits }
     ensures { result ≡ bits_of word place 3 }
 {
     (word >> place & 7) as u8

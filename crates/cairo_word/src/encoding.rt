@@ -1,6 +1,6 @@
 ghost use Rattle.cairo_word.specs.Instructions.{fields};
-ghost use Rattle.cairo_word.specs.Word.{fields_of, word_fault_of, register_of};
-ghost use Rattle.std.specs.Prelude.{◌≡◌, ◌-ℤ◌, ◌<◌, ℕ, None, pos};
+ghost use Rattle.cairo_word.specs.Word.{fields_of, word_fault_of, register_of, offset_bias, offset_bits};
+ghost use Rattle.std.specs.Prelude.{◌≡◌, ◌-ℤ◌, ◌<◌, ◌^◌, ℕ, None, pos};
 
 use crate::word::{Instruction, Reg};
 
@@ -22,12 +22,15 @@ pub fn encode(i: &Instruction) -> u64
         + (u64::from(i.opcode) << 60)
 }
 
-// An offset is kept with 2^15 added.
+/// What is added to an offset to keep it, so that it is no negative number.
+pub(crate) const OFFSET_BIAS: i32 = 0x8000;
+
+// An offset as it is kept.
 fn biased(offset: i16) -> u64
-    ensures value { pos result -ℤ pos 32768 ≡ offset }
-    ensures below { result < 65536 }
+    ensures value { pos result -ℤ pos offset_bias ≡ offset }
+    ensures below { result < 2 ^ offset_bits }
 {
-    (offset as i32 + 0x8000) as u64
+    (offset as i32 + OFFSET_BIAS) as u64
 }
 
 fn register_bit(register: Reg) -> u64

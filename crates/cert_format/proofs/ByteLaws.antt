@@ -2,10 +2,10 @@
 use Rattle.std.proofs.Common.{ℕ, ◌<◌, List, [], ◌∷◌, ◌++◌, length, arith}
 use Rattle.std.specs.Int.{w32, w64, to_be_bytes}
 use Rattle.std.specs.List.{flat_map, AllByRecursion}
-use Rattle.cairo_model.specs.Certificates.{CertKind, alone, batch, MarkRecord, CertRecord}
-use Rattle.cairo_model.specs.Machine.{Registers}
+use Rattle.cairo_model.specs.Certificate.Records.{CertKind, alone, batch, MarkRecord, CertRecord}
+use Rattle.cairo_model.specs.Machine.Steps.{Registers}
 use Rattle.cairo_model.proofs.Bytes.{IsBytes, IsBytes-append, IsBytes-nil, IsBytes-cons, number_fits}
-use Rattle.cert_format.specs.Spelling.{magic, kind_byte, span_bytes, counted_bytes, mark_bytes, cell_bytes, state_bytes, spelling}
+use Rattle.cert_format.specs.Spelling.{certificate_magic, kind_byte, span_bytes, counted_bytes, mark_bytes, field_cell_bytes, state_bytes, spelling}
 
 two_fit : (a b : ℕ) → IsBytes (to_be_bytes w64 a ++ to_be_bytes w64 b)
 two_fit a b = IsBytes-append (to_be_bytes w64 a) (to_be_bytes w64 b) (number_fits w64 a) (number_fits w64 b)
@@ -31,20 +31,20 @@ bytes_fit : (xs : List ℕ) → AllByRecursion (λ b. b < 256) xs → IsBytes xs
 bytes_fit [] h = IsBytes-nil
 bytes_fit (x ∷ xs) h = IsBytes-cons x xs h.0 (bytes_fit xs h.1)
 
-magic_fits : IsBytes magic
-magic_fits = bytes_fit magic (omega arith, (omega arith, (omega arith, (omega arith, (omega arith, (omega arith, (omega arith, (omega arith, tt))))))))
+magic_fits : IsBytes certificate_magic
+magic_fits = bytes_fit certificate_magic (omega arith, (omega arith, (omega arith, (omega arith, (omega arith, (omega arith, (omega arith, (omega arith, tt))))))))
 
 pub spelling_fits : (c : CertRecord) → IsBytes (spelling c)
 spelling_fits c =
     let b6 = counted_bytes state_bytes c.states in
-    let b5 = counted_bytes cell_bytes c.cells ++ b6 in
+    let b5 = counted_bytes field_cell_bytes c.cells ++ b6 in
     let b4 = counted_bytes mark_bytes c.tasks ++ b5 in
     let b3 = span_bytes c.hash ++ b4 in
     let b2 = span_bytes c.range ++ b3 in
     let b1 = span_bytes c.output ++ b2 in
-    let f5 : IsBytes b5 = IsBytes-append (counted_bytes cell_bytes c.cells) b6 (counted_fit cell_bytes (λ x. two_fit x.0 x.1) c.cells) (counted_fit state_bytes state_fits c.states) in
+    let f5 : IsBytes b5 = IsBytes-append (counted_bytes field_cell_bytes c.cells) b6 (counted_fit field_cell_bytes (λ x. two_fit x.0 x.1) c.cells) (counted_fit state_bytes state_fits c.states) in
     let f4 : IsBytes b4 = IsBytes-append (counted_bytes mark_bytes c.tasks) b5 (counted_fit mark_bytes mark_fits c.tasks) f5 in
     let f3 : IsBytes b3 = IsBytes-append (span_bytes c.hash) b4 (two_fit c.hash.start c.hash.stop) f4 in
     let f2 : IsBytes b2 = IsBytes-append (span_bytes c.range) b3 (two_fit c.range.start c.range.stop) f3 in
     let f1 : IsBytes b1 = IsBytes-append (span_bytes c.output) b2 (two_fit c.output.start c.output.stop) f2 in
-    IsBytes-append magic (kind_byte c.kind ∷ b1) magic_fits (IsBytes-cons (kind_byte c.kind) b1 (kind_fits c.kind) f1)
+    IsBytes-append certificate_magic (kind_byte c.kind ∷ b1) magic_fits (IsBytes-cons (kind_byte c.kind) b1 (kind_fits c.kind) f1)

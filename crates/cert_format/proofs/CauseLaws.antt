@@ -1,9 +1,9 @@
 -- The laws of the causes: what is refused has its first cause, and a certificate has none.
 use Rattle.std.proofs.Common.{◌≡◌, ℕ, ◌<◌, ◌≤◌, ◌⊎◌, Bool, true, false, ltb, eqb, List, length, drop, Option, Some, None, Result, Ok, Err, refl, sym, ap, subst, ◌∙◌, inl, inr}
 use Rattle.std.proofs.lemmas.Bool.{eqb-false, ltb-true}
-use Rattle.cairo_model.specs.Answers.{Gives}
-use Rattle.cairo_model.specs.Certificates.{CertRecord}
-use Rattle.cairo_model.specs.Machine.{required, demanded}
+use Rattle.cairo_model.specs.Working.Answers.{Gives}
+use Rattle.cairo_model.specs.Certificate.Records.{CertRecord}
+use Rattle.cairo_model.specs.Machine.Steps.{required, demanded}
 use Rattle.cairo_model.specs.declared.end.End.{End}
 use Rattle.cairo_model.specs.declared.end.End.TheVariants.{Refused}
 use Rattle.cairo_model.proofs.Outcomes.{required_is, tested, err_is, ok_no_err, bind_refused, required_refused}
@@ -11,8 +11,8 @@ use Rattle.cairo_model.proofs.Bytes.{IsBytes}
 use Rattle.cairo_model.proofs.Magics.{another_byte}
 use Rattle.cert_format.specs.declared.refusal.CertRefusal.{CertRefusal}
 use Rattle.cert_format.specs.declared.refusal.CertRefusal.TheVariants.{BadMagic, Truncated, Order, Trailing}
-use Rattle.cert_format.specs.Reading.{has_magic, after, after_all, draft_at, order_fault, ordered, reading}
-use Rattle.cert_format.specs.Spelling.{magic, CertBytes}
+use Rattle.cert_format.specs.Working.Reading.{has_magic, after, after_all, draft_at, order_fault, ordered, reading}
+use Rattle.cert_format.specs.Spelling.{certificate_magic, CertBytes}
 use Rattle.cert_format.specs.Refusals.{IsCertCause, IsFirstCertCause}
 use Rattle.cert_format.proofs.CertLaws.{Accepted, accepted, ended, with_draft, with_all, with_body, with_magic, demand_kept, order_kept, room_for, cert_takes, cert_again}
 use Rattle.cert_format.proofs.Causes.{clear_1, too_short, cut_short, bad_first, order_first, trailing_first, none_at_all, same_first}
@@ -31,7 +31,7 @@ order_refused (Some place) x e h go = go place refl (err_is (Order place) e h)
 short_of : (n : ℕ) (bytes : List ℕ) → after n bytes ≡ None → length bytes < n
 short_of n bytes e = tested (ltb (length bytes) n) None (Some (drop n bytes)) None e (λ short _. ltb-true (length bytes) n short) (λ _ some. absurd (cc))
 
--- behind the magic
+-- behind the certificate_magic
 refused_behind : (bytes body : List ℕ) (r : CertRefusal) → IsBytes bytes → has_magic bytes ≡ true → 8 ≤ length bytes → drop 8 bytes ≡ body → with_body (length bytes) body ≡ Err r → IsFirstCertCause bytes r
 refused_behind bytes body r fits begins room is_body e =
     let whole = length bytes in
@@ -58,7 +58,7 @@ refused_first bytes r fits e =
     let whole = length bytes in
     bind_refused (demanded BadMagic (has_magic bytes)) (with_magic bytes) r e
     (λ stop. demand_refused BadMagic (has_magic bytes) r stop (λ other same.
-    same_first bytes BadMagic r (record { applies = another_byte magic refl bytes other; none_before = clear_1 bytes }) same))
+    same_first bytes BadMagic r (record { applies = another_byte certificate_magic refl bytes other; none_before = clear_1 bytes }) same))
     (λ m is0 e0. demand_kept BadMagic (has_magic bytes) m is0 (λ begins.
     bind_refused (required (Truncated whole) (after 8 bytes)) (with_body whole) r e0
     (λ stop. required_refused (Truncated whole) (after 8 bytes) r stop (λ none same. same_first bytes (Truncated whole) r (too_short bytes begins (short_of 8 bytes none)) same))

@@ -2,13 +2,13 @@
 use Rattle.std.proofs.Common.{◌≡◌, ℕ, ◌+◌, ◌<◌, ◌≤◌, true, List, ◌++◌, length, drop, Some, None, Ok, Err, refl, sym, ap, subst, ◌∙◌, arith, length-drop}
 use Rattle.std.proofs.lemmas.List.Elements.{All-from_recursion, recursion_from_All}
 use Rattle.cairo_model.proofs.Firsts as firsts
-use Rattle.cairo_model.specs.FirstFailing.{NoneBelow}
+use Rattle.cairo_model.specs.Refusals.FirstFailing.{NoneBelow}
 use Rattle.cairo_model.proofs.Bytes.{IsBytes, IsBytes-drop}
 use Rattle.cairo_model.proofs.Magics.{same_bytes}
-use Rattle.cert_format.specs.Spelling.{magic}
+use Rattle.cert_format.specs.Spelling.{certificate_magic}
 use Rattle.cert_format.specs.declared.refusal.CertRefusal.{CertRefusal}
 use Rattle.cert_format.specs.declared.refusal.CertRefusal.TheVariants.{BadMagic, Truncated, BadNumber, Order, Trailing}
-use Rattle.cert_format.specs.Reading.{has_magic, after_all, Draft, draft_at, order_fault}
+use Rattle.cert_format.specs.Working.Reading.{has_magic, after_all, Draft, draft_at, order_fault}
 use Rattle.cert_format.specs.Refusals.{FitsBytes, entries_bytes, Parts, entries_of, HasParts, PartsHave, IsLeast, IsBadAt, IsUnorderedAt, refusal_number, IsCertCause, IsFirstCertCause}
 use Rattle.cert_format.proofs.EntryLaws.{Fit}
 use Rattle.cert_format.proofs.PartsFound.{parts_skip}
@@ -50,8 +50,8 @@ one_cause bytes (Trailing m) (Trailing n) same a b =
 one_cause bytes r s same a b = absurd (omega (arith, same))
 
 -- bytes have at most one first cause
-pub one_first_cause : (bytes : List ℕ) (r s : CertRefusal) → IsFirstCertCause bytes r → IsFirstCertCause bytes s → r ≡ s
-one_first_cause bytes = firsts.one_first_cause refusal_number (IsCertCause bytes) (one_cause bytes)
+pub one_first_cert_cause : (bytes : List ℕ) (r s : CertRefusal) → IsFirstCertCause bytes r → IsFirstCertCause bytes s → r ≡ s
+one_first_cert_cause bytes = firsts.one_first_cause refusal_number (IsCertCause bytes) (one_cause bytes)
 
 -- ---- that no cause applies
 
@@ -93,7 +93,7 @@ next : (bytes : List ℕ) (n : ℕ) → Clear bytes n → ((r : CertRefusal) →
 next bytes n clear none = firsts.none_below_next refusal_number (IsCertCause bytes) n clear none
 
 clear_2 : (bytes : List ℕ) → has_magic bytes ≡ true → Clear bytes 2
-clear_2 bytes begins = next bytes 1 (clear_1 bytes) (no_magic bytes (λ cause. cause.1.1.1 (same_bytes magic refl bytes begins cause.0 cause.1.0 cause.1.1.0)))
+clear_2 bytes begins = next bytes 1 (clear_1 bytes) (no_magic bytes (λ cause. cause.1.1.1 (same_bytes certificate_magic refl bytes begins cause.0 cause.1.0 cause.1.1.0)))
 
 pub same_first : (bytes : List ℕ) (r s : CertRefusal) → IsFirstCertCause bytes r → r ≡ s → IsFirstCertCause bytes s
 same_first bytes r s h e = subst (λ (q : CertRefusal). IsFirstCertCause bytes q) e h

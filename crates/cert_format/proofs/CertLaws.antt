@@ -5,18 +5,18 @@ use Rattle.std.proofs.lemmas.Bool.{eqb-true, ltb-false}
 use Rattle.std.proofs.lemmas.Bool.Decides.{Decides-eqb}
 use Rattle.std.proofs.lemmas.List.{append-nil, nil_from_length, take-append-drop, length-take}
 use Rattle.std.proofs.lemmas.Slice.Eq.{starts_is}
-use Rattle.cairo_model.specs.Answers.{Gives}
-use Rattle.cairo_model.specs.Certificates.{CertKind, CertRecord, HasSpelling}
-use Rattle.cairo_model.specs.Machine.{◌>>=◌, required, demanded}
+use Rattle.cairo_model.specs.Working.Answers.{Gives}
+use Rattle.cairo_model.specs.Certificate.Records.{CertKind, CertRecord, HasSpelling, IsCertificate}
+use Rattle.cairo_model.specs.Machine.Steps.{◌>>=◌, required, demanded}
 use Rattle.cairo_model.specs.declared.end.End.{End}
 use Rattle.cairo_model.specs.declared.end.End.TheVariants.{Refused}
 use Rattle.cairo_model.proofs.Outcomes.{else_gives, bind_gives, bind_goes, required_is, then_ok, ok_is, some_is}
 use Rattle.cairo_model.proofs.Bytes.{IsBytes, IsBytes-drop}
 use Rattle.cert_format.specs.declared.refusal.CertRefusal.{CertRefusal}
 use Rattle.cert_format.specs.declared.refusal.CertRefusal.TheVariants.{BadMagic, Truncated, Trailing}
-use Rattle.cert_format.specs.Reading.{has_magic, after, after_all, Draft, draft_at, order_fault, ordered, reading}
-use Rattle.cert_format.specs.Spelling.{magic, kind_byte, body_bytes, spelling, IsCertificate, CertBytes}
-use Rattle.cert_format.specs.Ordering.{IsOrdered}
+use Rattle.cert_format.specs.Working.Reading.{has_magic, after, after_all, Draft, draft_at, order_fault, ordered, reading}
+use Rattle.cert_format.specs.Spelling.{certificate_magic, kind_byte, body_bytes, spelling, CertBytes}
+use Rattle.cert_format.specs.Working.Ordering.{IsOrdered}
 use Rattle.cert_format.proofs.Skipping.{after_again}
 use Rattle.cert_format.proofs.OrderLaws.{is_ordered, no_order_fault}
 use Rattle.cert_format.proofs.CertParts.{parts_of, same_kind, kind_same, spelled_so, parts_spell, parts_certificate, cert_fits, cert_good}
@@ -54,13 +54,13 @@ pub order_kept : {A R : Type 0} (o : Option ℕ) (x y : A) → ordered o x ≡ O
 order_kept None x y h go = go refl (ok_is x y h)
 order_kept (Some p) x y h go = absurd (cc)
 
--- eight bytes that begin the magic are the magic
-magic_stands : (bytes : List ℕ) → 8 ≤ length bytes → has_magic bytes ≡ true → bytes ≡ magic ++ drop 8 bytes
+-- eight bytes that begin the certificate_magic are the certificate_magic
+magic_stands : (bytes : List ℕ) → 8 ≤ length bytes → has_magic bytes ≡ true → bytes ≡ certificate_magic ++ drop 8 bytes
 magic_stands bytes long begins =
     let len : length (take 8 bytes) ≡ 8 = omega (arith, length-take 8 bytes) in
-    let whole : magic ≡ take 8 bytes ++ drop (length (take 8 bytes)) magic = (starts_is Decides-eqb magic (take 8 bytes) (has_magic bytes) refl).0 begins in
-    let nothing : drop (length (take 8 bytes)) magic ≡ [] = ap (λ (n : ℕ). drop n magic) len in
-    let is : magic ≡ take 8 bytes = whole ∙ ap (λ (r : List ℕ). take 8 bytes ++ r) nothing ∙ append-nil (take 8 bytes) in
+    let whole : certificate_magic ≡ take 8 bytes ++ drop (length (take 8 bytes)) certificate_magic = (starts_is Decides-eqb certificate_magic (take 8 bytes) (has_magic bytes) refl).0 begins in
+    let nothing : drop (length (take 8 bytes)) certificate_magic ≡ [] = ap (λ (n : ℕ). drop n certificate_magic) len in
+    let is : certificate_magic ≡ take 8 bytes = whole ∙ ap (λ (r : List ℕ). take 8 bytes ++ r) nothing ∙ append-nil (take 8 bytes) in
     sym (take-append-drop 8 bytes) ∙ ap (λ (m : List ℕ). m ++ drop 8 bytes) (sym is)
 
 pub room_for : {R : Type 0} (n : ℕ) (bytes body : List ℕ) → after n bytes ≡ Some body → (n ≤ length bytes → drop n bytes ≡ body → R) → R
@@ -68,8 +68,8 @@ room_for n bytes body e go = else_gives (ltb (length bytes) n) (Some (drop n byt
 
 -- ---- what is read
 
--- behind the magic, where nothing follows
-cert_behind : (whole : ℕ) (body rest : List ℕ) (x : Draft × List ℕ) → IsBytes body → after_all body ≡ Some rest → draft_at whole body ≡ Ok x → order_fault whole x.0 ≡ None → length x.1 ≡ 0 → CertBytes (magic ++ body) x.0.cert
+-- behind the certificate_magic, where nothing follows
+cert_behind : (whole : ℕ) (body rest : List ℕ) (x : Draft × List ℕ) → IsBytes body → after_all body ≡ Some rest → draft_at whole body ≡ Ok x → order_fault whole x.0 ≡ None → length x.1 ≡ 0 → CertBytes (certificate_magic ++ body) x.0.cert
 cert_behind whole body rest x fits all read no_fault none =
     let found : Skipped entries_of body rest = parts_skip.there body rest fits all in
     let p = found.value in
@@ -78,8 +78,8 @@ cert_behind whole body rest x fits all read no_fault none =
     let nothing : rest ≡ [] = nil_from_length rest (ap (λ (y : Draft × List ℕ). length y.1) made.is ∙ none) in
     let spelled : body ≡ kind_byte (cert_in p).kind ∷ body_bytes (cert_in p) =
     found.parts ∙ ap (λ (r : List ℕ). entries_bytes (entries_of p) ++ r) nothing ∙ append-nil (entries_bytes (entries_of p)) ∙ spelled_so p (kind_same p.kind_number made.good.0) in
-    let is : CertBytes (magic ++ body) (cert_in p) = record { is_certificate = parts_certificate p found.fit made.good in_order; spelled = ap (λ (t : List ℕ). magic ++ t) spelled } in
-    subst (λ (y : Draft × List ℕ). CertBytes (magic ++ body) y.0.cert) made.is is
+    let is : CertBytes (certificate_magic ++ body) (cert_in p) = record { is_certificate = parts_certificate p found.fit made.good in_order; spelled = ap (λ (t : List ℕ). certificate_magic ++ t) spelled } in
+    subst (λ (y : Draft × List ℕ). CertBytes (certificate_magic ++ body) y.0.cert) made.is is
 
 -- the way of a reading that answers a certificate
 pub record Accepted (bytes : List ℕ) (c : CertRecord) : Type 0 where
@@ -122,7 +122,7 @@ accepted bytes c e =
 pub cert_takes : (bytes : List ℕ) (c : CertRecord) → IsBytes bytes → reading bytes ≡ Ok c → CertBytes bytes c
 cert_takes bytes c fits e =
     let a : Accepted bytes c = accepted bytes c e in
-    let is : CertBytes (magic ++ drop 8 bytes) a.draft.0.cert = cert_behind (length bytes) (drop 8 bytes) a.rest a.draft (IsBytes-drop 8 bytes fits) a.all a.read a.no_fault a.none in
+    let is : CertBytes (certificate_magic ++ drop 8 bytes) a.draft.0.cert = cert_behind (length bytes) (drop 8 bytes) a.rest a.draft (IsBytes-drop 8 bytes fits) a.all a.read a.no_fault a.none in
     let here : CertBytes bytes a.draft.0.cert = subst (λ (t : List ℕ). CertBytes t a.draft.0.cert) (sym (magic_stands bytes a.room a.begins)) is in
     subst (λ (y : CertRecord). CertBytes bytes y) a.is here
 
@@ -146,8 +146,8 @@ cert_again c h =
     let p = parts_of c in
     let fit = cert_fits c h in
     let x : Draft × List ℕ = (draft_in p [], []) in
-    let begins : has_magic bytes ≡ true = (starts_is Decides-eqb magic (take 8 bytes) (has_magic bytes) refl).1 [] refl in
-    let is_body : after 8 bytes ≡ Some body = after_again 8 magic body refl in
+    let begins : has_magic bytes ≡ true = (starts_is Decides-eqb certificate_magic (take 8 bytes) (has_magic bytes) refl).1 [] refl in
+    let is_body : after 8 bytes ≡ Some body = after_again 8 certificate_magic body refl in
     let is_whole : after_all body ≡ Some [] = ap after_all (cert_spelled c) ∙ parts_skip.again p [] fit in
     let read : draft_at whole body ≡ Ok x = draft_read whole p [] body fit (cert_spelled c) ∙ scan_all whole (entries_of p) [] (Ok x) (cert_good c h) in
     let in_order : IsOrdered (cert_in p) = subst (λ (d : CertRecord). IsOrdered d) (sym (same_cert c)) (is_in_order c h) in

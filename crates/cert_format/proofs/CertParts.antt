@@ -6,11 +6,11 @@ use Rattle.std.proofs.lemmas.Grind.{flat_map-append}
 use Rattle.std.proofs.lemmas.List.{nil_from_length}
 use Rattle.std.proofs.lemmas.List.Elements.{All-from_recursion, recursion_from_All}
 use Rattle.goldi_field.specs.Numbers.{IsFelt}
-use Rattle.cairo_model.specs.Machine.{Registers}
-use Rattle.cairo_model.specs.FieldMemories.{FieldCell}
-use Rattle.cairo_model.specs.Certificates.{CertKind, alone, batch, MarkRecord, CertRecord, HasSpelling}
-use Rattle.cert_format.specs.Ordering.{IsOrdered}
-use Rattle.cert_format.specs.Spelling.{kind_byte, span_bytes, counted_bytes, mark_bytes, cell_bytes, state_bytes, body_bytes, IsMark, IsCell, AreRegisters, IsCertificate}
+use Rattle.cairo_model.specs.Machine.Steps.{Registers}
+use Rattle.cairo_model.specs.Machine.FieldMemories.{FieldCell, IsCell}
+use Rattle.cairo_model.specs.Certificate.Records.{CertKind, alone, batch, MarkRecord, CertRecord, HasSpelling, IsMark, AreRegisters, IsCertificate}
+use Rattle.cert_format.specs.Working.Ordering.{IsOrdered}
+use Rattle.cert_format.specs.Spelling.{kind_byte, span_bytes, counted_bytes, mark_bytes, field_cell_bytes, state_bytes, body_bytes}
 use Rattle.cert_format.specs.Refusals.{Entry, entry_bytes, entries_bytes, FitsBytes, IsGoodEntry, kind, task_count, number, Parts, counted_entries, base_entries, mark_entries, cell_entries, state_entries, entries_of}
 use Rattle.cert_format.proofs.EntryLaws.{Fit, all_first, all_second, all_both}
 use Rattle.cert_format.proofs.ReadersScan.{cert_in}
@@ -35,9 +35,9 @@ spelled_so p same =
     let marks = flat_map mark_entries p.tasks in
     let cells = counted_entries cell_entries p.cells in
     let states = counted_entries state_entries p.states in
-    let lists : entries_bytes (marks ++ (cells ++ states)) ≡ flat_map mark_bytes p.tasks ++ (counted_bytes cell_bytes p.cells ++ counted_bytes state_bytes p.states) =
+    let lists : entries_bytes (marks ++ (cells ++ states)) ≡ flat_map mark_bytes p.tasks ++ (counted_bytes field_cell_bytes p.cells ++ counted_bytes state_bytes p.states) =
     flat_map-append entry_bytes marks (cells ++ states) ∙ ap (λ (t : List ℕ). t ++ entries_bytes (cells ++ states)) (each_bytes mark_entries mark_bytes mark_same p.tasks)
-    ∙ ap (λ (t : List ℕ). flat_map mark_bytes p.tasks ++ t) (flat_map-append entry_bytes cells states ∙ ap (λ (t : List ℕ). t ++ entries_bytes states) (counted_same cell_entries cell_bytes (λ c. refl) p.cells) ∙ ap (λ (t : List ℕ). counted_bytes cell_bytes p.cells ++ t) (counted_same state_entries state_bytes (λ s. refl) p.states)) in
+    ∙ ap (λ (t : List ℕ). flat_map mark_bytes p.tasks ++ t) (flat_map-append entry_bytes cells states ∙ ap (λ (t : List ℕ). t ++ entries_bytes states) (counted_same cell_entries field_cell_bytes (λ c. refl) p.cells) ∙ ap (λ (t : List ℕ). counted_bytes field_cell_bytes p.cells ++ t) (counted_same state_entries state_bytes (λ s. refl) p.states)) in
     ap (λ (t : List ℕ). p.kind_number ∷ (span_bytes p.output ++ (span_bytes p.range ++ (span_bytes p.hash ++ (to_be_bytes w32 (length p.tasks) ++ t))))) lists
     ∙ ap (λ (k : ℕ). k ∷ body_bytes (cert_in p)) (sym same)
 

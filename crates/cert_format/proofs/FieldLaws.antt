@@ -3,7 +3,7 @@ use Rattle.std.proofs.Common.{◌≡◌, ℕ, ◌^◌, ◌<◌, ◌≤◌, List,
 use Rattle.std.specs.Int.{w32, w64, from_be_bytes, to_be_bytes}
 use Rattle.std.proofs.lemmas.Bool.{le-ltb}
 use Rattle.cairo_model.proofs.Bytes.{wide32, wide64, front_again, rest_again}
-use Rattle.cert_format.specs.Reading.{count_at, number_at}
+use Rattle.cert_format.specs.Working.Reading.{count_at, number_at}
 
 -- ---- four bytes
 

@@ -3,7 +3,6 @@ pub mod Skipping
 pub mod FieldLaws
 pub mod OrderLaws
 pub mod CertLaws
-pub mod TypeFacts
 pub mod EntryLaws
 pub mod Scanning
 pub mod ReadersScan

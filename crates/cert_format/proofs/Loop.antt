@@ -1,12 +1,12 @@
 -- Reading items one after the other, as a loop does.
 use Rattle.std.proofs.Common.{◌≡◌, ℕ, suc, ◌-◌, ◌+◌, ◌≤◌, ◌<◌, List, [], ◌∷◌, ◌++◌, Ok, Err, refl, sym, ap, ◌∙◌, append_assoc, arith}
 use Rattle.std.proofs.lemmas.List.{append-nil}
-use Rattle.cairo_model.specs.Answers.{Ends}
-use Rattle.cairo_model.specs.Machine.{◌>>=◌}
+use Rattle.cairo_model.specs.Working.Answers.{Ends}
+use Rattle.cairo_model.specs.Machine.Steps.{◌>>=◌}
 use Rattle.cairo_model.specs.declared.end.End.{End}
 use Rattle.cairo_model.specs.declared.end.End.TheVariants.{Refused, OutOfMemory}
 use Rattle.cert_format.specs.declared.refusal.CertRefusal.{CertRefusal}
-use Rattle.cert_format.specs.Reading.{Reads, items_at}
+use Rattle.cert_format.specs.Working.Reading.{Reads, items_at}
 
 -- what was read before, and what is still read
 abbrev pub with_front : {A : Type 0} → List A → Reads (List A) → Reads (List A)

@@ -1,11 +1,11 @@
 -- A certificate has no fault of order exactly where its spans are ordered and its addresses rise.
 use Rattle.std.proofs.Common.{◌≡◌, ℕ, ◌-◌, Bool, true, false, cond, List, [], ◌∷◌, Option, Some, None, refl, ap, ◌∙◌}
 use Rattle.std.proofs.lemmas.Bool.{ltb-false, le-ltb}
-use Rattle.cairo_model.specs.FieldMemories.{FieldCell, addresses}
+use Rattle.cairo_model.specs.Machine.FieldMemories.{FieldCell, addresses}
 use Rattle.cairo_model.proofs.Rising.{Chain, rise_of, chain_of}
-use Rattle.cairo_model.specs.Keys.{is_after}
-use Rattle.cert_format.specs.Reading.{Draft, fallen_at, falls, order_fault}
-use Rattle.cert_format.specs.Ordering.{IsOrdered}
+use Rattle.cairo_model.specs.Working.Keys.{is_after}
+use Rattle.cert_format.specs.Working.Reading.{Draft, fallen_at, falls, order_fault}
+use Rattle.cert_format.specs.Working.Ordering.{IsOrdered}
 
 -- ---- the tests
 

@@ -3,12 +3,12 @@ use Rattle.std.proofs.Common.{◌≡◌, ℕ, zero, suc, Bool, true, false, cond
 use Rattle.std.specs.Prelude.{option_and_then}
 use Rattle.std.specs.Int.{w32, to_be_bytes, from_be_bytes}
 use Rattle.std.specs.List.{flat_map}
-use Rattle.cairo_model.specs.Machine.{Registers}
-use Rattle.cairo_model.specs.FieldMemories.{FieldCell}
-use Rattle.cairo_model.specs.Certificates.{SpanRecord, MarkRecord}
+use Rattle.cairo_model.specs.Machine.Steps.{Registers}
+use Rattle.cairo_model.specs.Machine.FieldMemories.{FieldCell}
+use Rattle.cairo_model.specs.Certificate.Records.{SpanRecord, MarkRecord}
 use Rattle.cairo_model.proofs.Outcomes.{and_then_gives, some_is}
 use Rattle.cairo_model.proofs.Bytes.{IsBytes}
-use Rattle.cert_format.specs.Reading.{count_at, after, after_counted, after_mark, after_marks, after_lists, after_all}
+use Rattle.cert_format.specs.Working.Reading.{count_at, after, after_counted, after_mark, after_marks, after_lists, after_all}
 use Rattle.cert_format.specs.Refusals.{Entry, FitsBytes, entries_bytes, Parts, counted_entries, span_entries, base_entries, mark_entries, cell_entries, state_entries, entries_of}
 use Rattle.cert_format.proofs.FieldLaws.{count_again}
 use Rattle.cert_format.proofs.EntryLaws.{in_two, IsBytes-behind, Fit, all_first, all_second, all_both}
@@ -156,7 +156,7 @@ parts_of x = record { kind_number = x.0.0; output = x.0.1.0; range = x.0.1.1.0; 
 abbrev pieces : Parts → Heads × Bodies
 pieces p = ((p.kind_number, (p.output, (p.range, p.hash))), (p.tasks, (p.cells, p.states)))
 
--- the parts of a file, behind the magic
+-- the parts of a file, behind the certificate_magic
 pub parts_skip : IsSkip after_all entries_of
 parts_skip = record {
   there = λ bytes rest fits e. let x = all_skip.there bytes rest fits e in record { value = parts_of x.value; parts = x.parts; fit = x.fit };

@@ -3,13 +3,13 @@ use Rattle.std.proofs.Common.{◌≡◌, ℕ, zero, suc, ◌+◌, ◌-◌, ◌*�
 use Rattle.std.specs.List.{flat_map, AllByRecursion}
 use Rattle.std.proofs.lemmas.List.{length-map}
 use Rattle.std.proofs.lemmas.Bool.{cases_lt, ltb-true, ltb-false}
-use Rattle.cairo_model.specs.FieldMemories.{FieldCell, addresses}
-use Rattle.cairo_model.specs.Certificates.{SpanRecord}
+use Rattle.cairo_model.specs.Machine.FieldMemories.{FieldCell, addresses}
+use Rattle.cairo_model.specs.Certificate.Records.{SpanRecord}
 use Rattle.cairo_model.proofs.Outcomes.{some_is, tested}
 use Rattle.cert_format.specs.declared.refusal.CertRefusal.{CertRefusal}
 use Rattle.cert_format.specs.declared.refusal.CertRefusal.TheVariants.{BadNumber}
-use Rattle.cert_format.specs.Ordering.{IsOrdered}
-use Rattle.cert_format.specs.Reading.{fallen_at, falls, order_fault}
+use Rattle.cert_format.specs.Working.Ordering.{IsOrdered}
+use Rattle.cert_format.specs.Working.Reading.{fallen_at, falls, order_fault}
 use Rattle.cert_format.specs.Refusals.{Entry, entry_bytes, entries_bytes, IsGoodEntry, Parts, counted_entries, mark_entries, cell_entries, state_entries, front_entries, entries_of, IsLeast, IsBadAt, cell_place, IsFallenAt, IsStopBelow, IsUnorderedAt}
 use Rattle.cert_format.proofs.EntryLaws.{in_two, all_second}
 use Rattle.cert_format.proofs.Scanning.{FirstBad}

@@ -4,13 +4,13 @@ use Rattle.std.specs.Int.{w32, w64, to_be_bytes}
 use Rattle.std.specs.List.{AllByRecursion, flat_map}
 use Rattle.std.proofs.lemmas.Bool.{lt-ltb}
 use Rattle.goldi_field.specs.Numbers.{prime}
-use Rattle.cairo_model.specs.Machine.{Registers, ◌>>=◌, required}
-use Rattle.cairo_model.specs.FieldMemories.{FieldCell}
-use Rattle.cairo_model.specs.Certificates.{CertKind, SpanRecord, MarkRecord, CertRecord}
+use Rattle.cairo_model.specs.Machine.Steps.{Registers, ◌>>=◌, required}
+use Rattle.cairo_model.specs.Machine.FieldMemories.{FieldCell}
+use Rattle.cairo_model.specs.Certificate.Records.{CertKind, SpanRecord, MarkRecord, CertRecord}
 use Rattle.cairo_model.proofs.Outcomes.{ok_is}
 use Rattle.cert_format.specs.declared.refusal.CertRefusal.{CertRefusal}
 use Rattle.cert_format.specs.declared.refusal.CertRefusal.TheVariants.{Truncated, BadNumber}
-use Rattle.cert_format.specs.Reading.{Reads, place_of, counted, felt_at, kind_at, span_at, items_at, list_at, mark_at, is_alone, task_count_at, cell_at, state_at, Draft, draft_at}
+use Rattle.cert_format.specs.Working.Reading.{Reads, place_of, counted, felt_at, kind_at, span_at, items_at, list_at, mark_at, is_alone, task_count_at, cell_at, state_at, Draft, draft_at}
 use Rattle.cert_format.specs.Refusals.{IsGoodEntry, Entry, FitsBytes, kind, task_count, count, number, entries_bytes, Parts, entries_of, counted_entries, span_entries, base_entries, mark_entries, cell_entries, state_entries}
 use Rattle.cert_format.proofs.FieldLaws.{number_again, count_again}
 use Rattle.cert_format.proofs.EntryLaws.{in_two, Fit, all_first, all_second}

@@ -2,8 +2,8 @@
 use Rattle.std.proofs.Common.{◌≡◌, ℕ, ◌+◌, ◌^◌, ◌≤◌, List, [], ◌∷◌, ◌++◌, length, get_or, take, drop, refl, sym, ap, subst, ◌∙◌, arith, length-append, length-drop}
 use Rattle.std.specs.Int.{w32, w64, from_be_bytes}
 use Rattle.std.proofs.lemmas.List.{drop_at, drop-drop}
-use Rattle.cairo_model.specs.Machine.{Registers}
-use Rattle.cairo_model.specs.Certificates.{SpanRecord}
+use Rattle.cairo_model.specs.Machine.Steps.{Registers}
+use Rattle.cairo_model.specs.Certificate.Records.{SpanRecord}
 use Rattle.cairo_model.proofs.Bytes.{IsBytes, IsBytes-drop, wide32, wide64, front_below, front_takes, front_again}
 use Rattle.cert_format.specs.Refusals.{Entry, FitsBytes, kind, count, entries_bytes, span_entries, base_entries, cell_entries, state_entries}
 use Rattle.cert_format.proofs.EntryLaws.{in_two, Fit, all_first, all_second, all_both}

@@ -3,7 +3,7 @@ use Rattle.std.proofs.Common.{◌≡◌, ℕ, suc, ◌-◌, ◌+◌, ◌<◌, Li
 use Rattle.std.specs.Prelude.{option_and_then}
 use Rattle.std.proofs.lemmas.Bool.{le-ltb}
 use Rattle.std.proofs.lemmas.List.{drop_at}
-use Rattle.cert_format.specs.Reading.{after, after_mark, after_marks}
+use Rattle.cert_format.specs.Working.Reading.{after, after_mark, after_marks}
 
 pub marks_go_on : (count i : ℕ) (bytes rest : List ℕ) (total : Option (List ℕ)) → i < count → after_mark bytes ≡ Some rest → after_marks (count - i) bytes ≡ total → after_marks (count - (i + 1)) rest ≡ total
 marks_go_on count i bytes rest total lt h so_far =

@@ -5,7 +5,7 @@ use Rattle.std.specs.Int.{w32, to_be_bytes, from_be_bytes}
 use Rattle.std.specs.List.{flat_map}
 use Rattle.std.proofs.lemmas.Bool.{ltb-false}
 use Rattle.std.proofs.lemmas.List.{drop_at, drop-drop}
-use Rattle.cert_format.specs.Reading.{count_at, after, after_counted}
+use Rattle.cert_format.specs.Working.Reading.{count_at, after, after_counted}
 use Rattle.cert_format.specs.Refusals.{Entry, FitsBytes, entries_bytes, counted_entries}
 use Rattle.cert_format.proofs.FieldLaws.{count_again}
 use Rattle.cert_format.proofs.EntryLaws.{in_two, IsBytes-behind, Fit, all_first, all_second, all_both}

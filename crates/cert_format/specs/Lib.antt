@@ -1,5 +1,3 @@
 pub mod Spelling
-pub mod Reading
-pub mod DraftViews
-pub mod Ordering
 pub mod Refusals
+pub mod Working

@@ -3,11 +3,11 @@ use Rattle.std.specs.Prelude.{ℕ, ◌≡◌, ◌≢◌, ◌+◌, ◌*◌, ◌^�
 use Rattle.std.specs.Int.{w32, w64, to_be_bytes}
 use Rattle.std.specs.List.{flat_map}
 use Rattle.goldi_field.specs.Numbers.{IsFelt}
-use Rattle.cairo_model.specs.Machine.{Registers}
-use Rattle.cairo_model.specs.FieldMemories.{FieldCell, addresses}
-use Rattle.cairo_model.specs.FirstFailing.{IsFirstCause}
-use Rattle.cairo_model.specs.Certificates.{SpanRecord, MarkRecord}
-use Rattle.cert_format.specs.Spelling.{magic}
+use Rattle.cairo_model.specs.Machine.Steps.{Registers}
+use Rattle.cairo_model.specs.Machine.FieldMemories.{FieldCell, addresses}
+use Rattle.cairo_model.specs.Refusals.FirstFailing.{IsFirstCause}
+use Rattle.cairo_model.specs.Certificate.Records.{SpanRecord, MarkRecord}
+use Rattle.cert_format.specs.Spelling.{certificate_magic}
 use Rattle.cert_format.specs.declared.refusal.CertRefusal.{CertRefusal}
 use Rattle.cert_format.specs.declared.refusal.CertRefusal.TheVariants.{BadMagic, Truncated, BadNumber, Order, Trailing}
 
@@ -18,7 +18,7 @@ refusal_number (BadNumber place) = 3
 refusal_number (Order place) = 4
 refusal_number (Trailing k) = 5
 
--- ---- a file, behind its magic, as a row of entries
+-- ---- a file, behind its certificate_magic, as a row of entries
 
 pub data Entry : Type 0 where
   kind : ℕ → Entry
@@ -138,7 +138,7 @@ IsUnorderedAt parts place = IsStopBelow 17 parts.output place ⊎ (IsStopBelow 3
 -- ---- the causes
 
 abbrev pub IsCertCause : List ℕ → CertRefusal → Type 0
-IsCertCause bytes BadMagic = (i : ℕ) × ((i < 8) × ((i < length bytes) × (slice_index bytes i ≢ slice_index magic i)))
+IsCertCause bytes BadMagic = (i : ℕ) × ((i < 8) × ((i < length bytes) × (slice_index bytes i ≢ slice_index certificate_magic i)))
 IsCertCause bytes (Truncated n) = (n ≡ length bytes) × ((parts : Parts) (rest : List ℕ) → ¬ HasParts bytes parts rest)
 IsCertCause bytes (BadNumber place) = PartsHave bytes (λ parts rest. IsLeast (IsBadAt parts) place)
 IsCertCause bytes (Order place) = PartsHave bytes (λ parts rest. IsLeast (IsUnorderedAt parts) place)

@@ -1,6 +1,6 @@
-ghost use Rattle.cairo_model.specs.Answers.{Gives};
-ghost use Rattle.cert_format.specs.Reading.{draft_at as draft_in};
-ghost use Rattle.cert_format.specs.DraftViews.{draft};
+ghost use Rattle.cairo_model.specs.Working.Answers.{Gives};
+ghost use Rattle.cert_format.specs.Working.Reading.{draft_at as draft_in};
+ghost use Rattle.cert_format.specs.Working.DraftViews.{draft};
 
 use crate::fields::{kind_at, span_at, task_count_at};
 use crate::lists::{all_cells, all_states, marks_at};
@@ -24,7 +24,7 @@ pub(crate) struct CertDraft {
 }
 
 /// The parts that follow the magic in a file of so many bytes, and the bytes after them.
-#[tactic(auto, unfolding(crate::specs::Reading::draft_at))]
+#[tactic(auto, unfolding(crate::specs::Working::Reading::draft_at))]
 pub(crate) fn draft_at(
     alloc: Global,
     whole: u64,

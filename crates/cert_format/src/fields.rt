@@ -1,10 +1,10 @@
 ghost use Rattle.std.specs.Prelude.{◌≡◌};
-ghost use Rattle.cairo_model.specs.Answers.{Gives};
-ghost use Rattle.cairo_model.specs.CertificateViews.{kind_of};
-ghost use Rattle.cairo_model.specs.FieldMemories.{field_cell};
-ghost use Rattle.cairo_model.specs.Views.{field_registers};
-ghost use Rattle.cert_format.specs.Reading.{place_of as place_in, counted as counted_in, felt_at as felt_in, kind_at as kind_in, span_at as span_in, task_count_at as task_count_in, cell_at as cell_in, state_at as state_in};
-ghost use Rattle.cert_format.specs.DraftViews.{stretch};
+ghost use Rattle.cairo_model.specs.Working.Answers.{Gives};
+ghost use Rattle.cairo_model.specs.Views.Certificate.{kind_of};
+ghost use Rattle.cairo_model.specs.Machine.FieldMemories.{field_cell};
+ghost use Rattle.cairo_model.specs.Views.Machine.{field_registers};
+ghost use Rattle.cert_format.specs.Working.Reading.{place_of as place_in, counted as counted_in, felt_at as felt_in, kind_at as kind_in, span_at as span_in, task_count_at as task_count_in, cell_at as cell_in, state_at as state_in};
+ghost use Rattle.cert_format.specs.Working.DraftViews.{stretch};
 
 use crate::parts::{count_at, number_at};
 use crate::refusal::CertRefusal;
@@ -27,7 +27,7 @@ pub(crate) fn counted(whole: u64, bytes: &[u8]) -> Result<(u32, &[u8]), End<Cert
     }
 }
 
-#[tactic(auto, unfolding(crate::specs::Reading::felt_at))]
+#[tactic(auto, unfolding(crate::specs::Working::Reading::felt_at))]
 pub(crate) fn felt_at(whole: u64, bytes: &[u8]) -> Result<(Felt, &[u8]), End<CertRefusal>>
     ensures { Gives (λ x. (x.0.number, x.1.now)) result (felt_in whole bytes.now) }
 {
@@ -40,7 +40,7 @@ pub(crate) fn felt_at(whole: u64, bytes: &[u8]) -> Result<(Felt, &[u8]), End<Cer
     }
 }
 
-#[tactic(auto, unfolding(crate::specs::Reading::kind_at))]
+#[tactic(auto, unfolding(crate::specs::Working::Reading::kind_at))]
 pub(crate) fn kind_at(whole: u64, bytes: &[u8]) -> Result<(Kind, &[u8]), End<CertRefusal>>
     ensures { Gives (λ x. (kind_of x.0, x.1.now)) result (kind_in whole bytes.now) }
 {
@@ -52,7 +52,7 @@ pub(crate) fn kind_at(whole: u64, bytes: &[u8]) -> Result<(Kind, &[u8]), End<Cer
     }
 }
 
-#[tactic(auto, unfolding(crate::specs::Reading::span_at))]
+#[tactic(auto, unfolding(crate::specs::Working::Reading::span_at))]
 pub(crate) fn span_at(whole: u64, bytes: &[u8]) -> Result<((Felt, Felt), &[u8]), End<CertRefusal>>
     ensures { Gives (λ x. (stretch x.0, x.1.now)) result (span_in whole bytes.now) }
 {
@@ -61,7 +61,7 @@ pub(crate) fn span_at(whole: u64, bytes: &[u8]) -> Result<((Felt, Felt), &[u8]),
     Ok(((start, stop), rest))
 }
 
-#[tactic(auto, unfolding(crate::specs::Reading::task_count_at))]
+#[tactic(auto, unfolding(crate::specs::Working::Reading::task_count_at))]
 pub(crate) fn task_count_at(
     whole: u64,
     kind: Kind,
@@ -76,7 +76,7 @@ pub(crate) fn task_count_at(
     Ok((count, rest))
 }
 
-#[tactic(auto, unfolding(crate::specs::Reading::cell_at))]
+#[tactic(auto, unfolding(crate::specs::Working::Reading::cell_at))]
 pub(crate) fn cell_at(whole: u64, bytes: &[u8]) -> Result<((Felt, Felt), &[u8]), End<CertRefusal>>
     ensures { Gives (λ x. (field_cell x.0, x.1.now)) result (cell_in whole bytes.now) }
 {
@@ -85,7 +85,7 @@ pub(crate) fn cell_at(whole: u64, bytes: &[u8]) -> Result<((Felt, Felt), &[u8]),
     Ok(((address, value), rest))
 }
 
-#[tactic(auto, unfolding(crate::specs::Reading::state_at))]
+#[tactic(auto, unfolding(crate::specs::Working::Reading::state_at))]
 pub(crate) fn state_at(whole: u64, bytes: &[u8]) -> Result<(FieldState, &[u8]), End<CertRefusal>>
     ensures { Gives (λ x. (field_registers x.0, x.1.now)) result (state_in whole bytes.now) }
 {

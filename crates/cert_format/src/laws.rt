@@ -1,6 +1,6 @@
 ghost use Rattle.std.specs.Prelude.{◌≡◌, ◌<◌, ◌⊎◌, ℕ, List, slice_index};
-ghost use Rattle.cairo_model.specs.Certificates.{CertRecord};
-ghost use Rattle.cert_format.specs.Spelling.{IsCertificate, CertBytes, spelling};
+ghost use Rattle.cairo_model.specs.Certificate.Records.{CertRecord, IsCertificate};
+ghost use Rattle.cert_format.specs.Spelling.{CertBytes, spelling};
 ghost use Rattle.cert_format.specs.Refusals.{IsCertCause, IsFirstCertCause};
 
 use crate::refusal::CertRefusal;
@@ -28,6 +28,6 @@ pub fn certificate_or_cause()
 {}
 
 /// Bytes have at most one first cause.
-pub fn one_first_cause()
+pub fn one_first_cert_cause()
     ensures { (bytes : List ℕ) (r s : CertRefusal) → IsFirstCertCause bytes r → IsFirstCertCause bytes s → r ≡ s }
 {}

@@ -3,7 +3,6 @@
 
 mod draft;
 mod fields;
-mod kept;
 mod laws;
 mod lists;
 mod order;
@@ -14,9 +13,9 @@ mod refusal;
 mod tests;
 mod writing;
 
-pub use kept::is_certificate;
 pub use laws::{
-    certificate_has_no_cause, certificate_or_cause, one_certificate, one_first_cause, reads_back,
+    certificate_has_no_cause, certificate_or_cause, one_certificate, one_first_cert_cause,
+    reads_back,
 };
 pub use reading::read_cert;
 pub use refusal::CertRefusal;

@@ -1,8 +1,8 @@
 ghost use Rattle.std.specs.Prelude.{◌≡◌, map};
-ghost use Rattle.cairo_model.specs.Answers.{Gives};
-ghost use Rattle.cairo_model.specs.FieldMemories.{field_cell};
-ghost use Rattle.cairo_model.specs.Views.{field_registers};
-ghost use Rattle.cert_format.specs.Reading.{items_at, list_at, felt_at as felt_in, mark_at as mark_in, cell_at as cell_in, state_at as state_in};
+ghost use Rattle.cairo_model.specs.Working.Answers.{Gives};
+ghost use Rattle.cairo_model.specs.Machine.FieldMemories.{field_cell};
+ghost use Rattle.cairo_model.specs.Views.Machine.{field_registers};
+ghost use Rattle.cert_format.specs.Working.Reading.{items_at, list_at, felt_at as felt_in, mark_at as mark_in, cell_at as cell_in, state_at as state_in};
 
 use crate::fields::{cell_at, counted, felt_at, state_at};
 use crate::refusal::CertRefusal;
@@ -28,7 +28,7 @@ fn felts_at(
     Ok((felts, rest))
 }
 
-#[tactic(auto, unfolding(crate::specs::Reading::mark_at, crate::specs::Reading::list_at))]
+#[tactic(auto, unfolding(crate::specs::Working::Reading::mark_at, crate::specs::Working::Reading::list_at))]
 fn mark_at(alloc: Global, whole: u64, bytes: &[u8]) -> Result<(TaskMark, &[u8]), End<CertRefusal>>
     ensures { Gives (λ x. (x.0, x.1.now)) result (mark_in whole bytes.now) }
 {
@@ -94,7 +94,7 @@ fn states_at(
 }
 
 /// A count of cells, so many cells, and the bytes after them.
-#[tactic(auto, unfolding(crate::specs::Reading::list_at))]
+#[tactic(auto, unfolding(crate::specs::Working::Reading::list_at))]
 pub(crate) fn all_cells(
     alloc: Global,
     whole: u64,
@@ -107,7 +107,7 @@ pub(crate) fn all_cells(
 }
 
 /// A count of states, so many states, and the bytes after them.
-#[tactic(auto, unfolding(crate::specs::Reading::list_at))]
+#[tactic(auto, unfolding(crate::specs::Working::Reading::list_at))]
 pub(crate) fn all_states(
     alloc: Global,
     whole: u64,

@@ -1,8 +1,8 @@
 ghost use Rattle.std.specs.Prelude.{◌≡◌, None, map};
-ghost use Rattle.cairo_model.specs.FieldMemories.{field_cell};
-ghost use Rattle.cairo_model.specs.Keys.{is_after as comes_after};
-ghost use Rattle.cert_format.specs.Reading.{falls as stop_falls, fallen_at, order_fault as order_fault_of};
-ghost use Rattle.cert_format.specs.DraftViews.{draft as draft_of, stretch};
+ghost use Rattle.cairo_model.specs.Machine.FieldMemories.{field_cell};
+ghost use Rattle.cairo_model.specs.Working.Keys.{is_after as comes_after};
+ghost use Rattle.cert_format.specs.Working.Reading.{falls as stop_falls, fallen_at, order_fault as order_fault_of};
+ghost use Rattle.cert_format.specs.Working.DraftViews.{draft as draft_of, stretch};
 
 use crate::draft::CertDraft;
 use crate::parts::CELL_BYTES;

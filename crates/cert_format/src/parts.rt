@@ -1,5 +1,5 @@
 ghost use Rattle.std.specs.Prelude.{◌≡◌, ◌≤◌, option_map};
-ghost use Rattle.cert_format.specs.Reading.{has_magic as begins_with_magic, count_at as count_in, number_at as number_in, after as bytes_after, after_counted as bytes_after_counted, after_mark as bytes_after_mark, after_marks as bytes_after_marks, after_lists as bytes_after_lists, after_all as bytes_after_all};
+ghost use Rattle.cert_format.specs.Working.Reading.{has_magic as begins_with_magic, count_at as count_in, number_at as number_in, after as bytes_after, after_counted as bytes_after_counted, after_mark as bytes_after_mark, after_marks as bytes_after_marks, after_lists as bytes_after_lists, after_all as bytes_after_all};
 
 /// Each certificate begins with these eight bytes.
 pub(crate) const MAGIC: [u8; 8] = [0x43, 0x43, 0x52, 0x54, 0x36, 0x34, 0x00, 0x01];
@@ -87,7 +87,7 @@ fn after_marks(count: u32, bytes: &[u8]) -> Option<&[u8]>
     Some(rest)
 }
 
-#[tactic(auto, unfolding(crate::specs::Reading::after_lists))]
+#[tactic(auto, unfolding(crate::specs::Working::Reading::after_lists))]
 fn after_lists(bytes: &[u8]) -> Option<&[u8]>
     ensures { option_map (λ r. r.now) result ≡ bytes_after_lists bytes.now }
 {

@@ -1,12 +1,12 @@
 ghost use Rattle.std.specs.Prelude.{◌≡◌, ◌≤◌, IfOk, Err};
-ghost use Rattle.cairo_model.specs.Answers.{Gives};
-ghost use Rattle.cairo_model.specs.Certificates.{CertRecord, HasSpelling};
-ghost use Rattle.cairo_model.specs.CertificateViews.{span_of};
+ghost use Rattle.cairo_model.specs.Working.Answers.{Gives};
+ghost use Rattle.cairo_model.specs.Certificate.Records.{CertRecord, HasSpelling};
+ghost use Rattle.cairo_model.specs.Views.Certificate.{span_of};
 ghost use Rattle.cert_format.specs.Spelling.{CertBytes};
-ghost use Rattle.cert_format.specs.Reading.{reading};
+ghost use Rattle.cert_format.specs.Working.Reading.{reading};
 ghost use Rattle.cert_format.specs.Refusals.{IsFirstCertCause};
-ghost use Rattle.cert_format.specs.Ordering.{IsOrdered};
-ghost use Rattle.cert_format.specs.DraftViews.{draft as draft_of, stretch as from_stretch};
+ghost use Rattle.cert_format.specs.Working.Ordering.{IsOrdered};
+ghost use Rattle.cert_format.specs.Working.DraftViews.{draft as draft_of, stretch as from_stretch};
 
 use crate::draft::{CertDraft, draft_at};
 use crate::order::order_fault;
@@ -29,7 +29,7 @@ pub fn read_cert(alloc: Global, bytes: &[u8]) -> Result<Cert, End<CertRefusal>>
     certificate_in(alloc, bytes)
 }
 
-#[tactic(auto, unfolding(crate::specs::Reading::reading))]
+#[tactic(auto, unfolding(crate::specs::Working::Reading::reading))]
 fn certificate_in(alloc: Global, bytes: &[u8]) -> Result<Cert, End<CertRefusal>>
     ensures { Gives (λ c. c) result (reading bytes.now) }
 {

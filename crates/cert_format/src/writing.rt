@@ -1,13 +1,12 @@
 ghost use Rattle.std.specs.Prelude.{◌≡◌, ◌++◌, ◌∷◌, [], ◌<◌, ◌^◌, All, length, map, IfOk, OnOk};
 ghost use Rattle.std.specs.Int.{w32, w64, to_be_bytes};
-ghost use Rattle.cairo_model.specs.Certificates.{MarkRecord};
-ghost use Rattle.cairo_model.specs.CertificateViews.{kind_of, span_of};
-ghost use Rattle.cairo_model.specs.FieldMemories.{field_cell};
-ghost use Rattle.cairo_model.specs.Views.{field_registers};
-ghost use Rattle.cert_format.specs.Spelling.{cell_bytes, counted_bytes, kind_byte, magic, mark_bytes, span_bytes, spelling, state_bytes, CertBytes};
+ghost use Rattle.cairo_model.specs.Certificate.Records.{MarkRecord};
+ghost use Rattle.cairo_model.specs.Views.Certificate.{kind_of, span_of};
+ghost use Rattle.cairo_model.specs.Machine.FieldMemories.{field_cell};
+ghost use Rattle.cairo_model.specs.Views.Machine.{field_registers};
+ghost use Rattle.cert_format.specs.Spelling.{field_cell_bytes, counted_bytes, kind_byte, certificate_magic, mark_bytes, span_bytes, spelling, state_bytes, CertBytes};
 
-use crate::kept::is_certificate;
-use cairo_model::{Cert, FieldState, Kind, Span, TaskMark};
+use cairo_model::{Cert, FieldState, Kind, Span, TaskMark, is_certificate};
 use goldi_field::Felt;
 use std::alloc::{AllocError, Global};
 
@@ -29,7 +28,7 @@ pub fn write_cert(alloc: Global, cert: &Cert) -> Result<Vec<u8>, AllocError>
 }
 
 fn head(alloc: Global, kind: Kind) -> Result<Vec<u8>, AllocError>
-    ensures { IfOk result (λ out. out.items ≡ magic ++ kind_byte (kind_of kind) ∷ []) }
+    ensures { IfOk result (λ out. out.items ≡ certificate_magic ++ kind_byte (kind_of kind) ∷ []) }
 {
     let mut out = b"CCRT64\x00\x01".to_vec(alloc)?;
     out.push(match kind {
@@ -79,7 +78,7 @@ fn put_bases(out: &mut Vec<u8>, bases: &[Felt]) -> Result<(), AllocError>
 
 fn put_cells(out: &mut Vec<u8>, cells: &[(Felt, Felt)]) -> Result<(), AllocError>
     requires { length cells.now < 2 ^ 32 }
-    ensures { OnOk result (out.new.items ≡ out.old.items ++ counted_bytes cell_bytes (map field_cell cells.now)) }
+    ensures { OnOk result (out.new.items ≡ out.old.items ++ counted_bytes field_cell_bytes (map field_cell cells.now)) }
 {
     put_count(out, cells.len())?;
     for cell in cells {
@@ -89,7 +88,7 @@ fn put_cells(out: &mut Vec<u8>, cells: &[(Felt, Felt)]) -> Result<(), AllocError
 }
 
 fn put_cell(out: &mut Vec<u8>, cell: &(Felt, Felt)) -> Result<(), AllocError>
-    ensures { OnOk result (out.new.items ≡ out.old.items ++ cell_bytes (field_cell cell.now)) }
+    ensures { OnOk result (out.new.items ≡ out.old.items ++ field_cell_bytes (field_cell cell.now)) }
 {
     put_number(out, cell.0)?;
     put_number(out, cell.1)

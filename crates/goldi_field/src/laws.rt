@@ -1,7 +1,18 @@
 //! Laws of the field, which do nothing when they run: a caller's proof has what a law that it calls ensures.
 
-ghost use Rattle.goldi_field.specs.Numbers.{IsFelt, IsInverse, product_of};
+ghost use Rattle.goldi_field.specs.Numbers.{IsFelt, IsInverse, prime, product_of};
 ghost use Rattle.std.specs.Prelude.{◌≡◌, ◌≢◌, ℕ};
+
+use crate::{Felt, PRIME};
+
+/// The constants `Felt::ZERO` and `Felt::ONE`, with a clause for each.
+pub fn field_constants() -> (Felt, Felt)
+    ensures prime { PRIME ≡ prime }
+    ensures zero { result.0.number ≡ 0 }
+    ensures one { result.1.number ≡ 1 }
+{
+    (Felt::ZERO, Felt::ONE)
+}
 
 /// Each field number but 0 has an inverse.
 pub fn inverses_exist()

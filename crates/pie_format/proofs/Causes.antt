@@ -1,9 +1,9 @@
 -- Causes of refusals by their numbers: that none applies before one, and that there is one first cause.
 use Rattle.std.proofs.Common.{◌≡◌, ℕ, ◌+◌, ◌<◌, List, length, sum, [], ◌∷◌, get_or, refl, sym, ap, subst, ◌∙◌, arith}
 use Rattle.cairo_model.proofs.Firsts as firsts
-use Rattle.cairo_model.specs.FirstFailing.{IsFirstFailing, NoneBelow}
-use Rattle.cairo_model.specs.PieFiles.{Metadata, IsMetadata}
-use Rattle.cairo_model.specs.ReadRefusals.{read_number, text_of, cell_count, IsGoodCell, IsReadCause, IsFirstReadCause}
+use Rattle.cairo_model.specs.Refusals.FirstFailing.{IsFirstFailing, NoneBelow}
+use Rattle.cairo_model.specs.Pie.Files.{Metadata, IsMetadata}
+use Rattle.cairo_model.specs.Refusals.ReadRefusals.{read_number, text_of, cell_count, IsGoodCell, IsReadCause, IsFirstReadCause}
 use Rattle.cairo_model.specs.declared.read_refusal.ReadRefusal.{ReadRefusal}
 use Rattle.cairo_model.specs.declared.read_refusal.ReadRefusal.TheVariants.{TooLong, BadMagic, Truncated, BadMetadata, BadVersion, BadSizes, TooManySegments, TooLarge, TooManySteps, BadCell, TrailingBytes}
 use Rattle.cairo_model.proofs.Outcomes.{some_is}
@@ -104,7 +104,7 @@ one_value bytes (BadCell i) v a b =
 one_value bytes (TrailingBytes k) v a b = ap TrailingBytes (a.0 ∙ sym b.0)
 
 -- bytes have at most one first cause
-pub one_first_cause : (bytes : List ℕ) (r s : ReadRefusal) → IsFirstReadCause bytes r → IsFirstReadCause bytes s → r ≡ s
-one_first_cause bytes = firsts.one_first_cause read_number (IsReadCause bytes) (λ r s same a b.
+pub one_first_read_cause : (bytes : List ℕ) (r s : ReadRefusal) → IsFirstReadCause bytes r → IsFirstReadCause bytes s → r ≡ s
+one_first_read_cause bytes = firsts.one_first_cause read_number (IsReadCause bytes) (λ r s same a b.
     let is : s ≡ refusal (read_number r) (value_of s) = named s (read_number r) (sym same) in
     one_value bytes r (value_of s) a (subst (λ (q : ReadRefusal). IsReadCause bytes q) is b) ∙ sym is)

@@ -5,15 +5,15 @@ use Rattle.std.proofs.lemmas.Bool.{cases_lt, ltb-true, lt-ltb}
 use Rattle.std.proofs.lemmas.List.{drop-drop, take_at, take-append-drop}
 use Rattle.cairo_model.specs.declared.read_refusal.ReadRefusal.{ReadRefusal}
 use Rattle.cairo_model.specs.declared.read_refusal.ReadRefusal.TheVariants.{BadCell}
-use Rattle.cairo_model.specs.Machine.{◌>>=◌, required}
-use Rattle.cairo_model.specs.Values.{Datum}
-use Rattle.cairo_model.specs.Pies.{MemoryCell, place_number}
-use Rattle.cairo_model.specs.PieFiles.{cell_bytes}
-use Rattle.cairo_model.specs.ReadRefusals.{cell_start, place_in, IsGoodCell}
+use Rattle.cairo_model.specs.Machine.Steps.{◌>>=◌, required}
+use Rattle.cairo_model.specs.Machine.Values.{Datum}
+use Rattle.cairo_model.specs.Pie.Records.{MemoryCell, place_number}
+use Rattle.cairo_model.specs.Pie.Files.{cell_bytes}
+use Rattle.cairo_model.specs.Refusals.ReadRefusals.{cell_start, place_in, IsGoodCell}
 use Rattle.cairo_model.proofs.Outcomes.{bind_gives, required_is, then_gives, no_some, ok_no_err, bind_refused, required_refused}
 use Rattle.cairo_model.proofs.Bytes.{IsBytes, IsBytes-drop}
-use Rattle.cairo_model.specs.Keys.{is_after}
-use Rattle.pie_format.specs.Reading.{front, is_inside, cell_in, cell_at, cells_at}
+use Rattle.cairo_model.specs.Working.Keys.{is_after}
+use Rattle.pie_format.specs.Working.Reading.{front, is_inside, cell_in, cell_at, cells_at}
 use Rattle.pie_format.proofs.ReadingCells.{AreSmall, IsRead, some_of, cell_takes, cell_again, cell_len}
 
 -- ---- one cell

@@ -3,18 +3,18 @@ use Rattle.std.proofs.Common.{◌≡◌, ℕ, ◌+◌, ◌*◌, ◌<◌, ◌≤�
 use Rattle.std.specs.Int.{to_be_bytes, w16, w32, w64}
 use Rattle.std.specs.List.{flat_map}
 use Rattle.std.proofs.lemmas.Bool.{eqb-false}
-use Rattle.cairo_model.specs.Answers.{Gives}
-use Rattle.cairo_model.specs.FirstFailing.{IsFirstFailing}
-use Rattle.cairo_model.specs.PieFiles.{Metadata, PieBytes, cell_bytes, tag_of, payload_of}
-use Rattle.cairo_model.specs.Pies.{MemoryCell, PieRecord}
-use Rattle.cairo_model.specs.ReadRefusals.{cell_count, cell_start, IsGoodCell, IsReadCause, IsFirstReadCause}
+use Rattle.cairo_model.specs.Working.Answers.{Gives}
+use Rattle.cairo_model.specs.Refusals.FirstFailing.{IsFirstFailing}
+use Rattle.cairo_model.specs.Pie.Files.{Metadata, PieBytes, cell_bytes, tag_of, payload_of}
+use Rattle.cairo_model.specs.Pie.Records.{MemoryCell, PieRecord}
+use Rattle.cairo_model.specs.Refusals.ReadRefusals.{cell_count, cell_start, IsGoodCell, IsReadCause, IsFirstReadCause}
 use Rattle.cairo_model.specs.declared.end.End.{End}
 use Rattle.cairo_model.specs.declared.end.End.TheVariants.{Refused}
 use Rattle.cairo_model.specs.declared.read_refusal.ReadRefusal.{ReadRefusal}
 use Rattle.cairo_model.specs.declared.read_refusal.ReadRefusal.TheVariants.{BadCell, TrailingBytes}
 use Rattle.cairo_model.proofs.Outcomes.{tested, err_is, ok_no_err, bind_refused}
 use Rattle.cairo_model.proofs.Bytes.{IsBytes, IsBytes-drop, IsBytes-append, IsBytes-nil, number_fits}
-use Rattle.pie_format.specs.Reading.{Parts, parts_at, metadata_at, cells_at, reading}
+use Rattle.pie_format.specs.Working.Reading.{Parts, parts_at, metadata_at, cells_at, reading}
 use Rattle.pie_format.proofs.ReadingCells.{AreSmall, AreRead, cells_take, cells_len}
 use Rattle.pie_format.proofs.ReadingLaws.{with_parts, with_metadata, with_cells, AreStages, stages, pie_takes}
 use Rattle.pie_format.proofs.Causes.{Clear, clear_next, none_at_all, same_first}

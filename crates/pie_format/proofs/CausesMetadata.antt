@@ -1,13 +1,13 @@
 -- The causes in the metadata.
 use Rattle.std.proofs.Common.{◌≡◌, ◌≢◌, ℕ, ◌<◌, ◌≤◌, Bool, true, false, not, cond, ltb, eqb, List, length, sum, Option, Some, None, Ok, Err, refl, sym, ap, subst, ◌∙◌, arith}
 use Rattle.std.proofs.lemmas.Bool.{ltb-true, ltb-false, eqb-true, eqb-false}
-use Rattle.cairo_model.specs.Machine.{required}
-use Rattle.cairo_model.specs.PieFiles.{Metadata, IsMetadata}
-use Rattle.cairo_model.specs.ReadRefusals.{text_of, HasSizes, MetadataHas, IsFirstReadCause}
+use Rattle.cairo_model.specs.Machine.Steps.{required}
+use Rattle.cairo_model.specs.Pie.Files.{Metadata, IsMetadata}
+use Rattle.cairo_model.specs.Refusals.ReadRefusals.{text_of, HasSizes, MetadataHas, IsFirstReadCause}
 use Rattle.cairo_model.specs.declared.read_refusal.ReadRefusal.{ReadRefusal}
 use Rattle.cairo_model.specs.declared.read_refusal.ReadRefusal.TheVariants.{BadMetadata, BadVersion, BadSizes, TooManySegments, TooLarge, TooManySteps}
 use Rattle.cairo_model.proofs.Outcomes.{required_is, some_is, no_some, tested, err_is, ok_no_err, bind_refused, required_refused, not_true, not_false}
-use Rattle.pie_format.specs.Reading.{metadata_in, has_sizes, metadata_fault, unless, metadata_at}
+use Rattle.pie_format.specs.Working.Reading.{metadata_in, has_sizes, metadata_fault, unless, metadata_at}
 use Rattle.pie_format.proofs.ReadingSizes.{sizes_hold, sizes_pass, are_held}
 use Rattle.pie_format.proofs.ReadingMetadata.{Kept, IsRead, says_so, reads_so, metadata_takes}
 use Rattle.pie_format.proofs.Causes.{Clear, clear_next, same_first, one_metadata}

@@ -3,14 +3,14 @@ use Rattle.std.proofs.Common.{◌≡◌, ℕ, ◌+◌, ◌-◌, ◌*◌, ◌≤�
 use Rattle.std.specs.Int.{w32}
 use Rattle.std.proofs.lemmas.Bool.{ltb-true, ltb-false}
 use Rattle.std.proofs.lemmas.List.{drop-drop}
-use Rattle.cairo_model.specs.Machine.{required}
-use Rattle.cairo_model.specs.PieFiles.{magic}
-use Rattle.cairo_model.specs.ReadRefusals.{text_length, text_of, cell_count, cell_start, IsCut, IsFirstReadCause}
+use Rattle.cairo_model.specs.Machine.Steps.{required}
+use Rattle.cairo_model.specs.Pie.Files.{magic}
+use Rattle.cairo_model.specs.Refusals.ReadRefusals.{text_length, text_of, cell_count, cell_start, IsCut, IsFirstReadCause}
 use Rattle.cairo_model.specs.declared.read_refusal.ReadRefusal.{ReadRefusal}
 use Rattle.cairo_model.specs.declared.read_refusal.ReadRefusal.TheVariants.{TooLong, BadMagic, Truncated}
 use Rattle.cairo_model.proofs.Outcomes.{required_is, some_is, tested, err_is, ok_no_err, required_refused}
 use Rattle.cairo_model.proofs.Magics.{another_byte, same_bytes}
-use Rattle.pie_format.specs.Reading.{Parts, front, has_magic, counted, after_length, whole_parts, parts_at}
+use Rattle.pie_format.specs.Working.Reading.{Parts, front, has_magic, counted, after_length, whole_parts, parts_at}
 use Rattle.pie_format.proofs.Causes.{Clear, clear_start, clear_next, same_first}
 
 -- ---- the parts

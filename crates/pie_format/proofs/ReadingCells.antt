@@ -9,15 +9,15 @@ use Rattle.std.proofs.lemmas.Nat.{div-mul-add, div-add-mod'}
 use Rattle.goldi_field.specs.Numbers.{prime}
 use Rattle.cairo_model.specs.declared.read_refusal.ReadRefusal.{ReadRefusal}
 use Rattle.cairo_model.specs.declared.read_refusal.ReadRefusal.TheVariants.{BadCell}
-use Rattle.cairo_model.specs.Machine.{◌>>=◌, required}
-use Rattle.cairo_model.specs.Values.{Datum, number, place}
-use Rattle.cairo_model.specs.Pies.{MemoryCell, IsValueIn, IsCellOf, place_number}
-use Rattle.cairo_model.specs.PieFiles.{tag_of, payload_of, cell_bytes}
+use Rattle.cairo_model.specs.Machine.Steps.{◌>>=◌, required}
+use Rattle.cairo_model.specs.Machine.Values.{Datum, number, place}
+use Rattle.cairo_model.specs.Pie.Records.{MemoryCell, IsValueIn, IsCellOf, place_number}
+use Rattle.cairo_model.specs.Pie.Files.{tag_of, payload_of, cell_bytes}
 use Rattle.cairo_model.proofs.Outcomes.{bind_gives, bind_goes, required_is, then_gives, ok_is, some_is, no_some, tested}
 use Rattle.cairo_model.proofs.Bytes.{IsBytes, Takes, Takes-then, wide16, wide32, wide64, front_takes, front_again, rest_again}
 use Rattle.cairo_model.proofs.Rising.{Chain}
-use Rattle.cairo_model.specs.Keys.{is_after}
-use Rattle.pie_format.specs.Reading.{front, number_value, place_value, value_in, all_below, is_inside, cell_in, cell_at, cells_at}
+use Rattle.cairo_model.specs.Working.Keys.{is_after}
+use Rattle.pie_format.specs.Working.Reading.{front, number_value, place_value, value_in, all_below, is_inside, cell_in, cell_at, cells_at}
 use Rattle.pie_format.proofs.ReadingSizes.{below_at}
 use Rattle.pie_format.proofs.ReadingLoop.{cell_parts}
 

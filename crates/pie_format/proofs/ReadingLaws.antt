@@ -9,14 +9,14 @@ use Rattle.cairo_model.specs.declared.read_refusal.ReadRefusal.{ReadRefusal}
 use Rattle.cairo_model.specs.declared.read_refusal.ReadRefusal.TheVariants.{TrailingBytes}
 use Rattle.std.specs.Prelude.{IfOk}
 use Rattle.cairo_model.specs.declared.end.End.{End}
-use Rattle.cairo_model.specs.Answers.{Gives}
-use Rattle.cairo_model.specs.Machine.{◌>>=◌}
-use Rattle.cairo_model.specs.Pies.{MemoryCell, PieRecord, IsCellOf, KeepsRules}
-use Rattle.cairo_model.specs.PieFiles.{magic, Metadata, IsMetadata, cell_bytes, text_bytes, cells_bytes, first_version, PieBytes}
+use Rattle.cairo_model.specs.Working.Answers.{Gives}
+use Rattle.cairo_model.specs.Machine.Steps.{◌>>=◌}
+use Rattle.cairo_model.specs.Pie.Records.{MemoryCell, PieRecord, IsCellOf, KeepsRules}
+use Rattle.cairo_model.specs.Pie.Files.{magic, Metadata, IsMetadata, cell_bytes, text_bytes, cells_bytes, first_version, PieBytes}
 use Rattle.cairo_model.proofs.Outcomes.{bind_gives, bind_goes, then_ok, ok_is}
 use Rattle.cairo_model.proofs.Bytes.{IsBytes, Takes, Takes-then}
 use Rattle.cairo_model.proofs.Rising.{rise_of, chain_of}
-use Rattle.pie_format.specs.Reading.{Parts, parts_at, metadata_at, cells_at, reading}
+use Rattle.pie_format.specs.Working.Reading.{Parts, parts_at, metadata_at, cells_at, reading}
 use Rattle.pie_format.proofs.ReadingSizes.{small_from_sum}
 use Rattle.pie_format.proofs.ReadingParts.{ArePartsOf, parts_take, parts_again}
 use Rattle.pie_format.proofs.ReadingMetadata.{IsRead, metadata_takes, metadata_again}

@@ -4,10 +4,10 @@ use Rattle.std.proofs.lemmas.List.{append-nil, drop-drop}
 use Rattle.std.specs.Int.{w16, w32, w64}
 use Rattle.cairo_model.specs.declared.read_refusal.ReadRefusal.{ReadRefusal}
 use Rattle.cairo_model.specs.declared.read_refusal.ReadRefusal.TheVariants.{BadCell}
-use Rattle.cairo_model.specs.Machine.{◌>>=◌}
-use Rattle.cairo_model.specs.Pies.{MemoryCell, place_number}
-use Rattle.cairo_model.specs.Values.{Datum}
-use Rattle.pie_format.specs.Reading.{front, value_in, cell_in, cell_at, cells_at}
+use Rattle.cairo_model.specs.Machine.Steps.{◌>>=◌}
+use Rattle.cairo_model.specs.Pie.Records.{MemoryCell, place_number}
+use Rattle.cairo_model.specs.Machine.Values.{Datum}
+use Rattle.pie_format.specs.Working.Reading.{front, value_in, cell_in, cell_at, cells_at}
 
 abbrev pub Cells : Type 0
 Cells = Result (List MemoryCell × List ℕ) ReadRefusal

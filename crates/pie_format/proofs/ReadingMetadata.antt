@@ -7,11 +7,11 @@ use Rattle.std.proofs.lemmas.Str.{IsUtf8-from_is_utf8, is_utf8-from_IsUtf8}
 use Rattle.serde_json.specs.Read.{read}
 use Rattle.cairo_model.specs.declared.read_refusal.ReadRefusal.{ReadRefusal}
 use Rattle.cairo_model.specs.declared.read_refusal.ReadRefusal.TheVariants.{BadMetadata, BadVersion, BadSizes, TooManySegments, TooLarge, TooManySteps}
-use Rattle.cairo_model.specs.Machine.{◌>>=◌, required}
-use Rattle.cairo_model.specs.Pies.{AreSizes}
-use Rattle.cairo_model.specs.PieFiles.{Metadata, IsMetadata, metadata_of}
+use Rattle.cairo_model.specs.Machine.Steps.{◌>>=◌, required}
+use Rattle.cairo_model.specs.Pie.Records.{AreSizes}
+use Rattle.cairo_model.specs.Pie.Files.{Metadata, IsMetadata, metadata_of}
 use Rattle.cairo_model.proofs.Outcomes.{bind_gives, required_is, then_gives, ok_is, not_false}
-use Rattle.pie_format.specs.Reading.{metadata_in, all_below, has_sizes, metadata_fault, unless, metadata_at}
+use Rattle.pie_format.specs.Working.Reading.{metadata_in, all_below, has_sizes, metadata_fault, unless, metadata_at}
 use Rattle.pie_format.proofs.ReadingSizes.{sizes_small, sizes_hold, sizes_pass, are_held}
 
 -- no refusal, and none later

@@ -6,11 +6,11 @@ use Rattle.std.proofs.lemmas.Bool.Decides.{Decides-eqb}
 use Rattle.std.proofs.lemmas.List.{take_at, drop_at, take-append-drop, length-take, append-nil}
 use Rattle.std.proofs.lemmas.Slice.Eq.{starts_is}
 use Rattle.cairo_model.specs.declared.read_refusal.ReadRefusal.TheVariants.{TooLong, BadMagic, Truncated}
-use Rattle.cairo_model.specs.Machine.{required}
-use Rattle.cairo_model.specs.PieFiles.{magic, text_bytes}
+use Rattle.cairo_model.specs.Machine.Steps.{required}
+use Rattle.cairo_model.specs.Pie.Files.{magic, text_bytes}
 use Rattle.cairo_model.proofs.Outcomes.{required_is, else_gives, else_ok, then_ok, some_is}
 use Rattle.cairo_model.proofs.Bytes.{IsBytes, IsBytes-drop, Takes, Takes-then, piece_takes, wide32, front_below, front_takes, front_again, rest_again}
-use Rattle.pie_format.specs.Reading.{front, has_magic, Parts, counted, after_length, whole_parts, parts_at}
+use Rattle.pie_format.specs.Working.Reading.{front, has_magic, Parts, counted, after_length, whole_parts, parts_at}
 
 -- the bytes after the length, whose text has that many
 pub record Follow (len : ℕ) (bytes : List ℕ) (p : Parts) : Type 0 where

@@ -10,10 +10,10 @@ use Rattle.std.specs.Prelude.{slice_index}
 use Rattle.serde_json.specs.View.{items_view}
 use Rattle.serde_json.specs.declared.value.Value.{Value}
 use Rattle.serde_json.proofs.Views.{members_len-members_view}
-use Rattle.cairo_model.specs.Pies.{AreSizes}
-use Rattle.cairo_model.specs.PieFiles.{wholes_in}
-use Rattle.cairo_model.specs.ReadRefusals.{HasSizes}
-use Rattle.pie_format.specs.Reading.{all_below, has_sizes, is_inside}
+use Rattle.cairo_model.specs.Pie.Records.{AreSizes}
+use Rattle.cairo_model.specs.Pie.Files.{wholes_in}
+use Rattle.cairo_model.specs.Refusals.ReadRefusals.{HasSizes}
+use Rattle.pie_format.specs.Working.Reading.{all_below, has_sizes, is_inside}
 
 -- the numbers so far, and then those of the items
 abbrev pub wholes_after : List ℕ → List Value → Option (List ℕ)

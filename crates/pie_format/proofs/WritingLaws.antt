@@ -9,9 +9,10 @@ use Rattle.serde_json.specs.Read.{read}
 use Rattle.serde_json.specs.View.{items_of}
 use Rattle.serde_json.specs.Written.{has_float, items_have_float, compact_text, items_text}
 use Rattle.serde_json.proofs.OnLiterals.{serde_json_on_literals}
-use Rattle.cairo_model.specs.Pies.{MemoryCell, PieRecord, KeepsRules}
-use Rattle.cairo_model.specs.PieFiles.{magic, Metadata, IsMetadata, metadata_of, wholes_in, cell_bytes, text_bytes, cells_bytes, first_version, PieBytes}
-use Rattle.pie_format.specs.Writing.{more_sizes, sizes_text, metadata_text, file_of, whole, sizes_data, metadata_data}
+use Rattle.cairo_model.specs.Pie.Records.{MemoryCell, PieRecord, KeepsRules}
+use Rattle.cairo_model.specs.Pie.Files.{magic, Metadata, IsMetadata, metadata_of, wholes_in, cell_bytes, text_bytes, cells_bytes, first_version, PieBytes}
+use Rattle.pie_format.specs.Writing.{more_sizes, sizes_text, metadata_text, file_of}
+use Rattle.pie_format.specs.Working.MetadataData.{whole, sizes_data, metadata_data}
 use Rattle.pie_format.proofs.ReadingCells.{cells_len}
 use Rattle.cairo_model.proofs.CellCount.{sum_more, few_cells}
 

@@ -1,13 +1,16 @@
-ghost use Rattle.std.specs.Prelude.{◌≡◌, ◌≤◌, ◌*◌, ◌^◌, length, true, None, option_map};
-ghost use Rattle.cairo_model.specs.Answers.{Gives};
-ghost use Rattle.cairo_model.specs.Views.{datum};
-ghost use Rattle.cairo_model.specs.PieViews.{memory_cell};
-ghost use Rattle.cairo_model.specs.Pies.{place_number as number_of_place};
-ghost use Rattle.cairo_model.specs.Keys.{is_after as comes_after};
-ghost use Rattle.pie_format.specs.Reading.{number_value, place_value, value_in, is_inside as stands_inside, cell_in as cell_with, cell_at, cells_at, all_below};
-ghost use Rattle.pie_format.specs.ReadingViews.{memory_cells};
+ghost use Rattle.std.specs.Prelude.{◌≡◌, ◌≤◌, ◌*◌, length, true, None, option_map};
+ghost use Rattle.cairo_model.specs.Limits.{most_segments, offset_limit};
+ghost use Rattle.cairo_model.specs.Working.Answers.{Gives};
+ghost use Rattle.cairo_model.specs.Views.Machine.{datum};
+ghost use Rattle.cairo_model.specs.Views.Pie.{memory_cell};
+ghost use Rattle.cairo_model.specs.Pie.Files.{cell_size};
+ghost use Rattle.cairo_model.specs.Pie.Records.{place_number as number_of_place};
+ghost use Rattle.cairo_model.specs.Working.Keys.{is_after as comes_after};
+ghost use Rattle.pie_format.specs.Working.Reading.{number_value, place_value, value_in, is_inside as stands_inside, cell_in as cell_with, cell_at, cells_at, all_below};
+ghost use Rattle.pie_format.specs.Working.ReadingViews.{memory_cells};
 
 use crate::file_parts::{CELL_BYTES, number16, number32, number64};
+use cairo_model::limits::OFFSET_LIMIT;
 use cairo_model::{End, PieCell, Place, ReadRefusal, Value};
 use goldi_field::Felt;
 use std::alloc::Global;
@@ -19,9 +22,9 @@ pub(crate) fn file_cells<'a>(
     count: u32,
     bytes: &'a [u8],
 ) -> Result<(Vec<PieCell>, &'a [u8]), End<ReadRefusal>>
-    requires few { length sizes.now ≤ 64 }
-    requires small { all_below (2 ^ 31) sizes.now ≡ true }
-    requires enough { 16 * count ≤ length bytes.now }
+    requires few { length sizes.now ≤ most_segments }
+    requires small { all_below offset_limit sizes.now ≡ true }
+    requires enough { cell_size * count ≤ length bytes.now }
     ensures { Gives (λ x. (memory_cells x.0.items, x.1.now)) result (cells_at sizes.now 0 None count bytes.now) }
 {
     let mut cells = Vec::new(alloc);
@@ -40,9 +43,9 @@ pub(crate) fn file_cells<'a>(
 }
 
 fn cell_from(sizes: &[u32], before: Option<u64>, bytes: &[u8]) -> Option<PieCell>
-    requires few { length sizes.now ≤ 64 }
-    requires small { all_below (2 ^ 31) sizes.now ≡ true }
-    requires enough { 16 ≤ length bytes.now }
+    requires few { length sizes.now ≤ most_segments }
+    requires small { all_below offset_limit sizes.now ≡ true }
+    requires enough { cell_size ≤ length bytes.now }
     ensures { option_map memory_cell result ≡ cell_at sizes.now before bytes.now }
 {
     let (segment, rest) = number16(bytes);
@@ -60,7 +63,7 @@ fn cell_in(
     offset: u32,
     value: Option<Value>,
 ) -> Option<PieCell>
-    requires { all_below (2 ^ 31) sizes.now ≡ true }
+    requires { all_below offset_limit sizes.now ≡ true }
     ensures { option_map memory_cell result ≡ cell_with sizes.now before segment offset (option_map datum value) }
 {
     if !is_inside(sizes, segment, offset) || !is_after(before, place_number(segment, offset)) {
@@ -96,7 +99,7 @@ pub(crate) fn place_number(segment: u16, offset: u32) -> u64
 }
 
 fn value_from(segments: usize, tag: u16, payload: u64) -> Option<Value>
-    requires { segments ≤ 64 }
+    requires { segments ≤ most_segments }
     ensures { option_map datum result ≡ value_in segments tag payload }
 {
     match tag {
@@ -116,10 +119,10 @@ fn number_from(number: u64) -> Option<Value>
 }
 
 fn place_from(segments: usize, segment: u64, offset: u64) -> Option<Value>
-    requires { segments ≤ 64 }
+    requires { segments ≤ most_segments }
     ensures { option_map datum result ≡ place_value segments segment offset }
 {
-    if segment < segments as u64 && offset < 1 << 31 {
+    if segment < segments as u64 && offset < u64::from(OFFSET_LIMIT) {
         Some(Value::At(Place {
             segment: segment as u16,
             offset: offset as u32,

@@ -1,15 +1,17 @@
 ghost use Rattle.std.specs.Prelude.{◌≡◌, ◌≤◌, ◌*◌, length, drop, option_map, IfOk, IfSome};
 ghost use Rattle.std.specs.Int.{w16, w32, w64};
-ghost use Rattle.cairo_model.specs.Answers.{Gives};
-ghost use Rattle.pie_format.specs.Reading.{Parts, front, has_magic, counted as counted_parts, after_length as parts_after_length, whole_parts as all_parts, parts_at};
+ghost use Rattle.cairo_model.specs.Pie.Files.{cell_size};
+ghost use Rattle.cairo_model.specs.Working.Answers.{Gives};
+ghost use Rattle.pie_format.specs.Working.Reading.{front, has_magic, counted as counted_parts, after_length as parts_after_length, whole_parts as all_parts, parts_at};
 
+use cairo_model::limits::MOST_FILE_BYTES;
 use cairo_model::{End, ReadRefusal};
 
 /// Each PIE file begins with these eight bytes.
 pub(crate) const MAGIC: [u8; 8] = [0x43, 0x50, 0x49, 0x45, 0x36, 0x34, 0x00, 0x01];
 
-/// The longest PIE file, in bytes.
-const FILE_BYTES: usize = 2_097_152;
+/// The bytes before the text of the metadata: the magic, and four of the length of the text.
+const TEXT_START: usize = 12;
 
 /// How many bytes a cell has in the file.
 pub(crate) const CELL_BYTES: usize = 16;
@@ -17,9 +19,9 @@ pub(crate) const CELL_BYTES: usize = 16;
 /// The text of the metadata, the number of cells, and the bytes after that number.
 pub(crate) fn file_parts(bytes: &[u8]) -> Result<(&[u8], u32, &[u8]), End<ReadRefusal>>
     ensures exact { Gives (λ x. record { text = x.0.now; count = x.1; rest = x.2.now }) result (parts_at bytes.now) }
-    ensures enough { IfOk result (λ x. 16 * x.1 ≤ length x.2.now) }
+    ensures enough { IfOk result (λ x. cell_size * x.1 ≤ length x.2.now) }
 {
-    if bytes.len() > FILE_BYTES {
+    if bytes.len() > MOST_FILE_BYTES {
         return Err(End::Refused(ReadRefusal::TooLong(bytes.len() as u64)));
     }
     if !begins_as_pie(bytes) {
@@ -34,26 +36,26 @@ pub(crate) fn file_parts(bytes: &[u8]) -> Result<(&[u8], u32, &[u8]), End<ReadRe
 fn begins_as_pie(bytes: &[u8]) -> bool
     ensures { result ≡ has_magic bytes.now }
 {
-    let there = bytes.len().min(8);
+    let there = bytes.len().min(MAGIC.len());
     let (first, _) = bytes.split_at(there);
     MAGIC.as_slice().starts_with(first)
 }
 
 fn whole_parts(bytes: &[u8]) -> Option<(&[u8], u32, &[u8])>
     ensures exact { option_map (λ x. record { text = x.0.now; count = x.1; rest = x.2.now }) result ≡ all_parts bytes.now }
-    ensures enough { IfSome result (λ x. 16 * x.1 ≤ length x.2.now) }
+    ensures enough { IfSome result (λ x. cell_size * x.1 ≤ length x.2.now) }
 {
-    if bytes.len() < 12 {
+    if bytes.len() < TEXT_START {
         return None;
     }
-    let (_, rest) = bytes.split_at(8);
+    let (_, rest) = bytes.split_at(MAGIC.len());
     let (len, rest) = number32(rest);
     after_length(len, rest)
 }
 
 fn after_length(len: u32, bytes: &[u8]) -> Option<(&[u8], u32, &[u8])>
     ensures exact { option_map (λ x. record { text = x.0.now; count = x.1; rest = x.2.now }) result ≡ parts_after_length len bytes.now }
-    ensures enough { IfSome result (λ x. 16 * x.1 ≤ length x.2.now) }
+    ensures enough { IfSome result (λ x. cell_size * x.1 ≤ length x.2.now) }
 {
     let len = len as usize;
     if bytes.len() < len + 4 {
@@ -66,7 +68,7 @@ fn after_length(len: u32, bytes: &[u8]) -> Option<(&[u8], u32, &[u8])>
 
 fn counted<'a>(text: &'a [u8], count: u32, rest: &'a [u8]) -> Option<(&'a [u8], u32, &'a [u8])>
     ensures exact { option_map (λ x. record { text = x.0.now; count = x.1; rest = x.2.now }) result ≡ counted_parts text.now count rest.now }
-    ensures enough { IfSome result (λ x. 16 * x.1 ≤ length x.2.now) }
+    ensures enough { IfSome result (λ x. cell_size * x.1 ≤ length x.2.now) }
 {
     if rest.len() < CELL_BYTES * count as usize {
         None

@@ -1,7 +1,7 @@
 ghost use Rattle.std.specs.Prelude.{◌≡◌, ◌<◌, ◌⊎◌, ℕ, List, slice_index};
-ghost use Rattle.cairo_model.specs.Pies.{PieRecord};
-ghost use Rattle.cairo_model.specs.PieFiles.{PieBytes};
-ghost use Rattle.cairo_model.specs.ReadRefusals.{IsReadCause, IsFirstReadCause};
+ghost use Rattle.cairo_model.specs.Pie.Records.{PieRecord};
+ghost use Rattle.cairo_model.specs.Pie.Files.{PieBytes};
+ghost use Rattle.cairo_model.specs.Refusals.ReadRefusals.{IsReadCause, IsFirstReadCause};
 
 use cairo_model::ReadRefusal;
 
@@ -22,6 +22,6 @@ pub fn file_or_cause()
 {}
 
 /// Bytes have at most one first cause.
-pub fn one_first_cause()
+pub fn one_first_read_cause()
     ensures { (bytes : List ℕ) (r s : ReadRefusal) → IsFirstReadCause bytes r → IsFirstReadCause bytes s → r ≡ s }
 {}

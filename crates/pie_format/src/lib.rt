@@ -12,6 +12,6 @@ mod reading;
 mod tests;
 mod writing;
 
-pub use laws::{file_or_cause, one_first_cause, one_pie, pie_has_no_cause};
+pub use laws::{file_or_cause, one_first_read_cause, one_pie, pie_has_no_cause};
 pub use reading::read;
 pub use writing::write;

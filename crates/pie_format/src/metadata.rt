@@ -1,11 +1,11 @@
 ghost use Rattle.std.specs.Prelude.{◌≡◌, ◌<◌, ◌^◌, length, Option, Some, None, Result, Ok, option_map};
 ghost use Rattle.serde_json.specs.View.{view, items_view};
-ghost use Rattle.cairo_model.specs.PieFiles.{metadata_of, wholes_in, wholes_at as list_at, whole_at as number_at, has_four_keys as is_object_of_four};
-ghost use Rattle.cairo_model.specs.Machine.{required};
-ghost use Rattle.cairo_model.specs.Answers.{Gives};
+ghost use Rattle.cairo_model.specs.Pie.Files.{metadata_of, wholes_in, wholes_at as list_at, whole_at as number_at, has_four_keys as is_object_of_four};
+ghost use Rattle.cairo_model.specs.Machine.Steps.{required};
+ghost use Rattle.cairo_model.specs.Working.Answers.{Gives};
 ghost use Rattle.cairo_model.specs.declared.read_refusal.ReadRefusal.TheVariants.{BadMetadata};
-ghost use Rattle.pie_format.specs.Reading.{metadata_in};
-ghost use Rattle.pie_format.specs.ReadingViews.{metadata};
+ghost use Rattle.pie_format.specs.Working.Reading.{metadata_in};
+ghost use Rattle.pie_format.specs.Working.ReadingViews.{metadata};
 
 use cairo_model::{End, ReadRefusal};
 use serde_json::Value;

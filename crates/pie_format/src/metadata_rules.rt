@@ -1,20 +1,14 @@
 ghost use Rattle.std.specs.Prelude.{◌≡◌, ◌<◌, ◌^◌, sum, true, IfOk, None};
-ghost use Rattle.cairo_model.specs.Answers.{Gives};
-ghost use Rattle.pie_format.specs.Reading.{all_below as are_below, has_sizes as are_sizes, metadata_fault as fault_in, metadata_at};
-ghost use Rattle.pie_format.specs.ReadingViews.{metadata};
+ghost use Rattle.cairo_model.specs.Limits.{offset_limit};
+ghost use Rattle.cairo_model.specs.Working.Answers.{Gives};
+ghost use Rattle.pie_format.specs.Working.Reading.{all_below as are_below, has_sizes as are_sizes, metadata_fault as fault_in, metadata_at};
+ghost use Rattle.pie_format.specs.Working.ReadingViews.{metadata};
 
 use crate::metadata::{FileMetadata, read_metadata};
+use cairo_model::limits::{LEAST_SEGMENTS, MOST_CELLS, MOST_SEGMENTS, MOST_STEPS, OFFSET_LIMIT};
+use cairo_model::segments::{RETURN_FP, RETURN_PC};
 use cairo_model::{End, ReadRefusal};
 use std::alloc::{AllocError, Global};
-
-/// The most segments of a PIE.
-const SEGMENTS: usize = 64;
-
-/// The most cells in all segments together.
-const CELLS: u64 = 65_536;
-
-/// The most steps of a run.
-const STEPS: u64 = 65_536;
 
 /// The metadata that the text is, where it keeps the rules.
 pub(crate) fn file_metadata(alloc: Global, text: &[u8]) -> Result<FileMetadata, End<ReadRefusal>>
@@ -38,14 +32,14 @@ fn metadata_fault(found: &FileMetadata) -> Option<ReadRefusal>
     if !has_sizes(sizes) {
         return Some(ReadRefusal::BadSizes);
     }
-    if sizes.len() > SEGMENTS {
+    if sizes.len() > MOST_SEGMENTS {
         return Some(ReadRefusal::TooManySegments(sizes.len() as u64));
     }
     let total = total_of(sizes);
-    if total > CELLS {
+    if total > u64::from(MOST_CELLS) {
         return Some(ReadRefusal::TooLarge(total));
     }
-    if found.steps > STEPS {
+    if found.steps > u64::from(MOST_STEPS) {
         return Some(ReadRefusal::TooManySteps(found.steps));
     }
     None
@@ -54,7 +48,10 @@ fn metadata_fault(found: &FileMetadata) -> Option<ReadRefusal>
 fn has_sizes(sizes: &[u64]) -> bool
     ensures { result ≡ are_sizes sizes.now }
 {
-    sizes.len() >= 7 && all_below(1 << 31, sizes) && sizes[5] == 0 && sizes[6] == 0
+    sizes.len() >= LEAST_SEGMENTS
+        && all_below(u64::from(OFFSET_LIMIT), sizes)
+        && sizes[RETURN_FP as usize] == 0
+        && sizes[RETURN_PC as usize] == 0
 }
 
 fn all_below(limit: u64, sizes: &[u64]) -> bool
@@ -77,7 +74,7 @@ fn total_of(sizes: &[u64]) -> u64
 
 /// The sizes in 32 bits.
 pub(crate) fn narrowed(alloc: Global, sizes: &[u64]) -> Result<Vec<u32>, AllocError>
-    requires { are_below (2 ^ 31) sizes.now ≡ true }
+    requires { are_below offset_limit sizes.now ≡ true }
     ensures { IfOk result (λ v. v.items ≡ sizes.now) }
 {
     let mut narrow = Vec::new(alloc);

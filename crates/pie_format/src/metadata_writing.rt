@@ -1,17 +1,18 @@
 ghost use Rattle.std.specs.Prelude.{◌≡◌, ◌≤◌, ◌<◌, ◌^◌, length, IfOk, OnOk};
 ghost use Rattle.serde_json.specs.View.{view};
-ghost use Rattle.cairo_model.specs.Pies.{KeepsRules};
-ghost use Rattle.cairo_model.specs.PieFiles.{IsMetadata, first_version};
-ghost use Rattle.pie_format.specs.Writing.{metadata_text as text_of_metadata, metadata_data, sizes_data};
+ghost use Rattle.cairo_model.specs.Pie.Records.{KeepsRules};
+ghost use Rattle.cairo_model.specs.Pie.Files.{IsMetadata, first_version};
+ghost use Rattle.pie_format.specs.Writing.{metadata_text};
+ghost use Rattle.pie_format.specs.Working.MetadataData.{metadata_data, sizes_data};
 
 use cairo_model::Pie;
 use serde_json::{Value, json};
 use std::alloc::{AllocError, Global};
 
 /// The text of the metadata of a PIE.
-pub(crate) fn metadata_text(alloc: Global, pie: &Pie) -> Result<Vec<u8>, AllocError>
+pub(crate) fn text_of(alloc: Global, pie: &Pie) -> Result<Vec<u8>, AllocError>
     requires { KeepsRules pie.now }
-    ensures text { IfOk result (λ text. text.items ≡ text_of_metadata pie.now) }
+    ensures text { IfOk result (λ text. text.items ≡ metadata_text pie.now) }
     ensures says { IfOk result (λ text. IsMetadata text.items (first_version pie.now)) }
     ensures short { IfOk result (λ text. length text.items ≤ 600) }
 {

@@ -1,8 +1,8 @@
 ghost use Rattle.std.specs.Prelude.{◌≡◌, IfOk, Err};
-ghost use Rattle.cairo_model.specs.Answers.{Gives};
-ghost use Rattle.cairo_model.specs.PieFiles.{PieBytes};
-ghost use Rattle.cairo_model.specs.ReadRefusals.{IsFirstReadCause};
-ghost use Rattle.pie_format.specs.Reading.{reading};
+ghost use Rattle.cairo_model.specs.Working.Answers.{Gives};
+ghost use Rattle.cairo_model.specs.Pie.Files.{PieBytes};
+ghost use Rattle.cairo_model.specs.Refusals.ReadRefusals.{IsFirstReadCause};
+ghost use Rattle.pie_format.specs.Working.Reading.{reading};
 
 use crate::cell_reading::file_cells;
 use crate::file_parts::file_parts;
@@ -21,7 +21,7 @@ pub fn read(alloc: Global, bytes: &[u8]) -> Result<Pie, End<ReadRefusal>>
     pie_in(alloc, bytes)
 }
 
-#[tactic(auto, unfolding(crate::specs::Reading::reading))]
+#[tactic(auto, unfolding(crate::specs::Working::Reading::reading))]
 fn pie_in(alloc: Global, bytes: &[u8]) -> Result<Pie, End<ReadRefusal>>
     ensures { Gives (λ p. p) result (reading bytes.now) }
 {

@@ -1,14 +1,14 @@
 ghost use Rattle.std.specs.Prelude.{◌≡◌, ◌++◌, ◌<◌, ◌^◌, length, map, IfOk, OnOk};
 ghost use Rattle.std.specs.Int.{w16, w32, w64, to_be_bytes};
-ghost use Rattle.cairo_model.specs.Pies.{KeepsRules};
-ghost use Rattle.cairo_model.specs.PieFiles.{magic, tag_of as tag_number, payload_of as payload_number, cell_bytes, text_bytes, cells_bytes, PieBytes};
-ghost use Rattle.cairo_model.specs.PieViews.{memory_cell};
-ghost use Rattle.cairo_model.specs.Views.{datum};
+ghost use Rattle.cairo_model.specs.Pie.Records.{KeepsRules};
+ghost use Rattle.cairo_model.specs.Pie.Files.{tag_of as tag_number, payload_of as payload_number, cell_bytes, text_bytes, cells_bytes, PieBytes};
+ghost use Rattle.cairo_model.specs.Views.Pie.{memory_cell};
+ghost use Rattle.cairo_model.specs.Views.Machine.{datum};
 ghost use Rattle.pie_format.specs.Writing.{file_of};
 
 use crate::cell_reading::place_number;
 use crate::file_parts::MAGIC;
-use crate::metadata_writing::metadata_text;
+use crate::metadata_writing::text_of;
 use cairo_model::{Pie, PieCell, Value};
 use std::alloc::{AllocError, Global};
 
@@ -19,7 +19,7 @@ pub fn write(alloc: Global, pie: &Pie) -> Result<Vec<u8>, AllocError>
     ensures file { IfOk result (λ bytes. PieBytes bytes.items pie.now) }
     ensures layout { IfOk result (λ bytes. bytes.items ≡ file_of pie.now) }
 {
-    let text = metadata_text(alloc, pie)?;
+    let text = text_of(alloc, pie)?;
     let mut bytes = MAGIC.as_slice().to_vec(alloc)?;
     put_text(&mut bytes, text.as_slice())?;
     put_cells(&mut bytes, pie.cells.as_slice())?;

@@ -1,17 +1,18 @@
 -- A PIE that is accepted alone has no cause against it, and one that isn't has one first cause.
-use Rattle.std.proofs.Common.{◌≡◌, ℕ, ◌<◌, List, Err, Result, sym, ap, subst, ◌∙◌, inl, inr, arith}
+use Rattle.std.proofs.Common.{◌≡◌, ℕ, ◌<◌, List, length, Err, Result, sym, ap, subst, ◌∙◌, inl, inr, arith}
 use Rattle.std.proofs.lemmas.Bool.{cases_lt}
-use Rattle.cairo_model.specs.Acceptance.{AcceptedWith, start_of}
-use Rattle.cairo_model.specs.FirstFailing.{IsFirstFailing}
-use Rattle.cairo_model.specs.Machine.{Registers, next, value_arithmetic}
-use Rattle.cairo_model.specs.Pies.{PieRecord, memory_of}
-use Rattle.cairo_model.specs.ReplayRefusals.{ReplayCause, program_cell, bad_main, bad_frame, output_cell, range_cell, hash_instance, step, not_home, wrong_frame, stop_pointer, replay_number, EndsIn, FailsAfter, IsReplayCause, IsFirstReplayCause}
-use Rattle.cairo_model.specs.Acceptance.{FactRecord, HasStopPointer}
-use Rattle.cairo_model.specs.Values.{Datum}
+use Rattle.cairo_model.specs.Segments.{builtin_mask, builtin_segments}
+use Rattle.cairo_model.specs.Pie.Acceptance.{AcceptedWith, start_of}
+use Rattle.cairo_model.specs.Refusals.FirstFailing.{IsFirstFailing}
+use Rattle.cairo_model.specs.Machine.Steps.{Registers, next, value_arithmetic}
+use Rattle.cairo_model.specs.Pie.Records.{PieRecord, memory_of}
+use Rattle.cairo_model.specs.Refusals.ReplayRefusals.{ReplayCause, program_cell, bad_main, bad_frame, output_cell, range_cell, hash_instance, step, not_home, wrong_frame, stop_pointer, replay_number, EndsIn, FailsAfter, IsReplayCause, IsFirstReplayCause}
+use Rattle.cairo_model.specs.Pie.Acceptance.{FactRecord, HasStopPointer}
+use Rattle.cairo_model.specs.Machine.Values.{Datum}
 use Rattle.cairo_model.specs.declared.fault.StepFault.{StepFault}
 use Rattle.cairo_model.proofs.Firsts as firsts
 use Rattle.cairo_model.proofs.RunLaws.{same_runs, no_longer_run}
-use Rattle.pie_replay.specs.Replaying.{Passes}
+use Rattle.pie_replay.specs.Working.Replaying.{Passes}
 use Rattle.pie_replay.proofs.FullSegments.{has_each, range_cell_at, instance_at}
 use Rattle.pie_replay.proofs.Stages.{one_end, passes_none, passes_on}
 
@@ -98,8 +99,8 @@ told pie (not_home v) (not_home w) e a b = ap not_home (a.1.1.0 ∙ ap (λ (s : 
 told pie (wrong_frame v) (wrong_frame w) e a b = ap wrong_frame (a.1.1.0 ∙ ap (λ (s : Registers Datum). s.fp) (one_end pie a.0 b.0 a.1.0 b.1.0) ∙ sym b.1.1.0)
 told pie (stop_pointer i) (stop_pointer j) e a b =
     let same = one_end pie b.0 a.0 b.1.0 a.1.0 in
-    ap stop_pointer (firsts.one_failing (λ k. k < 3) (HasStopPointer pie a.0.ap) i j a.1.1 (subst (λ (s : Registers Datum). IsFirstFailing (λ k. k < 3) (HasStopPointer pie s.ap) j) same b.1.1))
+    ap stop_pointer (firsts.one_failing (λ k. k < length (builtin_segments builtin_mask)) (HasStopPointer builtin_mask pie a.0.ap) i j a.1.1 (subst (λ (s : Registers Datum). IsFirstFailing (λ k. k < length (builtin_segments builtin_mask)) (HasStopPointer builtin_mask pie s.ap) j) same b.1.1))
 told pie c d e a b = absurd (omega (arith, e))
 
-pub one_first_cause : (pie : PieRecord) (c d : ReplayCause) → IsFirstReplayCause pie c → IsFirstReplayCause pie d → c ≡ d
-one_first_cause pie = firsts.one_first_cause replay_number (IsReplayCause pie) (told pie)
+pub one_first_replay_cause : (pie : PieRecord) (c d : ReplayCause) → IsFirstReplayCause pie c → IsFirstReplayCause pie d → c ≡ d
+one_first_replay_cause pie = firsts.one_first_cause replay_number (IsReplayCause pie) (told pie)

@@ -5,10 +5,10 @@ use Rattle.std.proofs.lemmas.Grind.{get_or-set_at}
 use Rattle.std.proofs.lemmas.List.{ext_get_or, get_or_default, get_or-set_other}
 use Rattle.builtin_hash.specs.Instances.{IsInstance}
 use Rattle.builtin_range.specs.Ranges.{IsRangeCell}
-use Rattle.cairo_model.specs.Acceptance.{HoldsNumbers, HasRangeCells, HasInstances}
-use Rattle.cairo_model.specs.Pies.{MemoryCell, PieRecord, segment_size, value_at}
-use Rattle.cairo_model.specs.ReplayRefusals.{HasNumber, HasRangeCell, HasInstance, IsFirstGap}
-use Rattle.cairo_model.specs.Values.{number}
+use Rattle.cairo_model.specs.Pie.Acceptance.{HoldsNumbers, HasRangeCells, HasInstances}
+use Rattle.cairo_model.specs.Pie.Records.{MemoryCell, PieRecord, segment_size, value_at}
+use Rattle.cairo_model.specs.Refusals.ReplayRefusals.{HasNumber, HasRangeCell, HasInstance, IsFirstGap}
+use Rattle.cairo_model.specs.Machine.Values.{number}
 use Rattle.cairo_model.proofs.Groups as groups
 
 -- a number stands at an offset of a segment

@@ -1,13 +1,15 @@
 -- A replay goes by stages. Each of them rules out the causes of one number.
 use Rattle.std.proofs.Common.{◌≡◌, ℕ, ◌+◌, ◌*◌, ◌<◌, ◌≤◌, ◌==◌, if◌then◌else◌, sym, ap, subst, ◌∙◌, arith}
-use Rattle.cairo_model.specs.Acceptance.{HasFrame, HasStopPointer, HasStopPointers, start_of}
-use Rattle.cairo_model.specs.Machine.{Registers, value_arithmetic}
-use Rattle.cairo_model.specs.Pies.{PieRecord, memory_of, segment_size}
-use Rattle.cairo_model.specs.ReplayRefusals.{ReplayCause, program_cell, bad_main, bad_frame, output_cell, range_cell, hash_instance, step, not_home, wrong_frame, stop_pointer, replay_number, HasNumber, HasRangeCell, HasInstance, EndsIn, IsReplayCause, IsFirstReplayCause}
-use Rattle.cairo_model.specs.Values.{Datum, place}
+use Rattle.builtin_hash.specs.Instances.{cells_per_instance}
+use Rattle.cairo_model.specs.Segments.{builtin_mask, program_segment, output_segment, range_segment, hash_segment, return_fp_segment, return_pc_segment}
+use Rattle.cairo_model.specs.Pie.Acceptance.{HasFrame, HasStopPointer, HasStopPointers, start_of}
+use Rattle.cairo_model.specs.Machine.Steps.{Registers, value_arithmetic}
+use Rattle.cairo_model.specs.Pie.Records.{PieRecord, memory_of, segment_size}
+use Rattle.cairo_model.specs.Refusals.ReplayRefusals.{ReplayCause, program_cell, bad_main, bad_frame, output_cell, range_cell, hash_instance, step, not_home, wrong_frame, stop_pointer, replay_number, HasNumber, HasRangeCell, HasInstance, EndsIn, IsReplayCause, IsFirstReplayCause}
+use Rattle.cairo_model.specs.Machine.Values.{Datum, place}
 use Rattle.cairo_model.proofs.Firsts.{none_below_next}
 use Rattle.cairo_model.proofs.RunLaws.{same_runs, no_longer_run}
-use Rattle.pie_replay.specs.Replaying.{Passes}
+use Rattle.pie_replay.specs.Working.Replaying.{Passes}
 
 pub data Stage : Type 0 where
   program : Stage
@@ -37,16 +39,16 @@ stage_at n =
 
 -- what holds once a stage is passed
 abbrev pub RuleAt : PieRecord → Stage → Type 0
-RuleAt pie program = (k : ℕ) → k < segment_size pie 0 → HasNumber pie.cells 0 k
-RuleAt pie main = pie.main < segment_size pie 0
-RuleAt pie frame = HasFrame pie.cells
-RuleAt pie outputs = (k : ℕ) → k < segment_size pie 2 → HasNumber pie.cells 2 k
-RuleAt pie range = (k : ℕ) → k < segment_size pie 3 → HasRangeCell pie.cells k
-RuleAt pie hash = (k : ℕ) → 20 * k < segment_size pie 4 → HasInstance pie k
+RuleAt pie program = (k : ℕ) → k < segment_size pie program_segment → HasNumber pie.cells program_segment k
+RuleAt pie main = pie.main < segment_size pie program_segment
+RuleAt pie frame = HasFrame builtin_mask pie.cells
+RuleAt pie outputs = (k : ℕ) → k < segment_size pie output_segment → HasNumber pie.cells output_segment k
+RuleAt pie range = (k : ℕ) → k < segment_size pie range_segment → HasRangeCell pie.cells k
+RuleAt pie hash = (k : ℕ) → cells_per_instance * k < segment_size pie hash_segment → HasInstance pie k
 RuleAt pie run = (last : Registers Datum) × EndsIn pie last
-RuleAt pie home = (last : Registers Datum) × (EndsIn pie last × (last.pc ≡ place 6 0))
-RuleAt pie caller = (last : Registers Datum) × (EndsIn pie last × (last.fp ≡ place 5 0))
-RuleAt pie stops = (last : Registers Datum) × (EndsIn pie last × HasStopPointers pie last.ap)
+RuleAt pie home = (last : Registers Datum) × (EndsIn pie last × (last.pc ≡ place return_pc_segment 0))
+RuleAt pie caller = (last : Registers Datum) × (EndsIn pie last × (last.fp ≡ place return_fp_segment 0))
+RuleAt pie stops = (last : Registers Datum) × (EndsIn pie last × HasStopPointers builtin_mask pie last.ap)
 
 -- the run of a PIE's steps ends in one state
 pub one_end : (pie : PieRecord) (s t : Registers Datum) → EndsIn pie s → EndsIn pie t → s ≡ t
@@ -71,7 +73,7 @@ excludes pie (wrong_frame fp) rule cause =
 excludes pie (stop_pointer i) rule cause =
     let same = one_end pie cause.0 rule.0 cause.1.0 rule.1.0 in
     let found = cause.1.1 in
-    found.fails (subst (λ (s : Registers Datum). HasStopPointer pie s.ap i) (sym same) (rule.1.1 i found.inside))
+    found.fails (subst (λ (s : Registers Datum). HasStopPointer builtin_mask pie s.ap i) (sym same) (rule.1.1 i found.inside))
 
 -- the numbers begin at 20
 from_20 : (c : ReplayCause) → 20 ≤ replay_number c

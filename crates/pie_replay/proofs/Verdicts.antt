@@ -1,16 +1,16 @@
 -- The bytes of a file have one verdict.
 use Rattle.std.proofs.Common.{◌≡◌, ℕ, List, sym, subst, ap, ◌∙◌}
-use Rattle.cairo_model.specs.Acceptance.{AcceptedWith, CheckedRecord, FactRecord}
-use Rattle.cairo_model.specs.Machine.{Registers}
-use Rattle.cairo_model.specs.PieFiles.{PieBytes}
-use Rattle.cairo_model.specs.Pies.{PieRecord}
-use Rattle.cairo_model.specs.ReadRefusals.{IsFirstReadCause, IsReadCause}
-use Rattle.cairo_model.specs.ReplayRefusals.{IsFirstReplayCause}
-use Rattle.cairo_model.specs.Values.{Datum}
-use Rattle.cairo_model.specs.Verdicts.{IsVerdict, Verdict, admitted, no_file, not_alone}
+use Rattle.cairo_model.specs.Pie.Acceptance.{AcceptedWith, CheckedRecord, FactRecord}
+use Rattle.cairo_model.specs.Machine.Steps.{Registers}
+use Rattle.cairo_model.specs.Pie.Files.{PieBytes}
+use Rattle.cairo_model.specs.Pie.Records.{PieRecord}
+use Rattle.cairo_model.specs.Refusals.ReadRefusals.{IsFirstReadCause, IsReadCause}
+use Rattle.cairo_model.specs.Refusals.ReplayRefusals.{IsFirstReplayCause}
+use Rattle.cairo_model.specs.Machine.Values.{Datum}
+use Rattle.cairo_model.specs.Refusals.Verdicts.{IsVerdict, Verdict, admitted, no_file, not_alone}
 use Rattle.cairo_model.specs.declared.read_refusal.ReadRefusal.{ReadRefusal}
 use Rattle.cairo_model.proofs.RunLaws.{one_acceptance}
-use Rattle.pie_replay.proofs.Causes.{no_cause, one_first_cause}
+use Rattle.pie_replay.proofs.Causes.{no_cause, one_first_replay_cause}
 
 -- one PIE has one record of what was found
 same_found : (a b : CheckedRecord) → a.pie ≡ b.pie → AcceptedWith a.pie a.fact a.states → AcceptedWith b.pie b.fact b.states → a ≡ b
@@ -31,7 +31,7 @@ module _ (one_pie : (bytes : List ℕ) (p q : PieRecord) → PieBytes bytes p �
   one_verdict bytes (not_alone c) (no_file s) x y = absurd (no_read_cause bytes x.0 s x.1.0 y.applies)
   one_verdict bytes (not_alone c) (not_alone d) x y =
       let same = one_pie bytes y.0 x.0 y.1.0 x.1.0 in
-      ap not_alone (one_first_cause x.0 c d x.1.1 (subst (λ (p : PieRecord). IsFirstReplayCause p d) same y.1.1))
+      ap not_alone (one_first_replay_cause x.0 c d x.1.1 (subst (λ (p : PieRecord). IsFirstReplayCause p d) same y.1.1))
   one_verdict bytes (not_alone c) (admitted b) x y =
       let same = one_pie bytes x.0 b.pie x.1.0 y.0 in
       absurd (no_cause b.pie b.fact b.states y.1 c (subst (λ (p : PieRecord). IsFirstReplayCause p c) same x.1.1).applies)

@@ -1,31 +1,31 @@
 ghost use Rattle.std.specs.Prelude.{◌≡◌, map, length, IfOk, Err, ◌<◌, ◌^◌, ◌-◌};
 ghost use Rattle.builtin_hash.specs.Programs.{program_hash_of};
-ghost use Rattle.cairo_model.specs.Acceptance.{AcceptedWith, HasFrame, HasInstances, HasRangeCells, HoldsNumbers, builtin_mask};
-ghost use Rattle.cairo_model.specs.Pies.{KeepsRules, segment_size};
-ghost use Rattle.cairo_model.specs.ReplayRefusals.{IsFirstReplayCause};
-ghost use Rattle.cairo_model.specs.ReplayViews.{replay_cause};
-ghost use Rattle.cairo_model.specs.Views.{registers};
-ghost use Rattle.pie_replay.specs.Replaying.{IsMemoryOf, Passes};
+ghost use Rattle.cairo_model.specs.Pie.Acceptance.{AcceptedWith, HasFrame, HasInstances, HasRangeCells, HoldsNumbers};
+ghost use Rattle.cairo_model.specs.Pie.Records.{KeepsRules, segment_size};
+ghost use Rattle.cairo_model.specs.Segments.{builtin_mask, output_segment, program_segment};
+ghost use Rattle.cairo_model.specs.Refusals.ReplayRefusals.{IsFirstReplayCause};
+ghost use Rattle.cairo_model.specs.Views.ReplayRefusals.{replay_cause};
+ghost use Rattle.cairo_model.specs.Views.Machine.{registers};
+ghost use Rattle.pie_replay.specs.Working.Replaying.{IsMemoryOf, Passes};
 
 use crate::builtins::{bad_instance, bad_range_cell};
 use crate::convention::bad_frame_cell;
 use crate::ending::isolated_states;
 use crate::segments::{numbers_in, size_of};
 use builtin_hash::{ProgramHash, program_hash};
+use cairo_model::segments::{BUILTIN_MASK, OUTPUT, PROGRAM};
 use cairo_model::{Checked, End, Fact, Outputs, Pie, ReplayRefusal, State};
 use goldi_field::Felt;
 use seg_memory::SegMemory;
 use std::alloc::{AllocError, Global};
 
-/// The mask of a program that may use all three builtins.
-const BUILTIN_MASK: u64 = 7;
-
 /// The PIE with its fact and its isolated states, where it is accepted alone, or else the first cause against it
 /// (docs/PIE.md).
 pub fn replay(alloc: Global, pie: Pie) -> Result<Checked, End<ReplayRefusal>>
     requires { KeepsRules pie }
-    // That it is accepted alone is what a `Checked` keeps.
     ensures ok { IfOk result (λ checked. checked.pie ≡ pie) }
+    ensures accepted { IfOk result (λ checked. AcceptedWith pie checked.fact checked.states) }
+    // So no cause applies where the PIE is accepted (`accepted_has_no_cause`), and one is named where it isn't.
     ensures refused { (e : ReplayRefusal) → result ≡ Err (End.Refused e) → IsFirstReplayCause pie (replay_cause e) }
 {
     let (fact, states) = examine(alloc, &pie)?;
@@ -54,14 +54,14 @@ fn examine(alloc: Global, pie: &Pie) -> Result<(Fact, Vec<State>), End<ReplayRef
 fn program_of(alloc: Global, memory: &SegMemory, pie: &Pie) -> Result<Vec<Felt>, End<ReplayRefusal>>
     requires rules { KeepsRules pie.now }
     requires cells { IsMemoryOf memory.now pie.now }
-    ensures code { IfOk result (λ code. HoldsNumbers pie.now.cells 0 (segment_size pie.now 0) (map (λ f. f.number) code.items)) }
-    ensures main { IfOk result (λ _. pie.now.main < segment_size pie.now 0) }
+    ensures code { IfOk result (λ code. HoldsNumbers pie.now.cells program_segment (segment_size pie.now program_segment) (map (λ f. f.number) code.items)) }
+    ensures main { IfOk result (λ _. pie.now.main < segment_size pie.now program_segment) }
     ensures passes { IfOk result (λ _. Passes pie.now 22) }
     ensures refused { (e : ReplayRefusal) → result ≡ Err (End.Refused e) → IsFirstReplayCause pie.now (replay_cause e) }
 {
-    match numbers_in(alloc, memory, pie, 0) {
+    match numbers_in(alloc, memory, pie, PROGRAM) {
         Ok(code) => {
-            if pie.main >= u64::from(size_of(pie, 0)) {
+            if pie.main >= u64::from(size_of(pie, PROGRAM)) {
                 return Err(End::Refused(ReplayRefusal::BadMain(pie.main)));
             }
             Ok(code)
@@ -74,7 +74,7 @@ fn program_of(alloc: Global, memory: &SegMemory, pie: &Pie) -> Result<Vec<Felt>,
 fn frame_of(memory: &SegMemory, pie: &Pie) -> Result<(), End<ReplayRefusal>>
     requires cells { IsMemoryOf memory.now pie.now }
     requires passed { Passes pie.now 22 }
-    ensures frame { IfOk result (λ _. HasFrame pie.now.cells) }
+    ensures frame { IfOk result (λ _. HasFrame builtin_mask pie.now.cells) }
     ensures passes { IfOk result (λ _. Passes pie.now 23) }
     ensures refused { (e : ReplayRefusal) → result ≡ Err (End.Refused e) → IsFirstReplayCause pie.now (replay_cause e) }
 {
@@ -88,11 +88,11 @@ fn outputs_of(alloc: Global, memory: &SegMemory, pie: &Pie) -> Result<Vec<Felt>,
     requires rules { KeepsRules pie.now }
     requires cells { IsMemoryOf memory.now pie.now }
     requires passed { Passes pie.now 23 }
-    ensures outputs { IfOk result (λ outputs. HoldsNumbers pie.now.cells 2 (segment_size pie.now 2) (map (λ f. f.number) outputs.items)) }
+    ensures outputs { IfOk result (λ outputs. HoldsNumbers pie.now.cells output_segment (segment_size pie.now output_segment) (map (λ f. f.number) outputs.items)) }
     ensures passes { IfOk result (λ _. Passes pie.now 24) }
     ensures refused { (e : ReplayRefusal) → result ≡ Err (End.Refused e) → IsFirstReplayCause pie.now (replay_cause e) }
 {
-    match numbers_in(alloc, memory, pie, 2) {
+    match numbers_in(alloc, memory, pie, OUTPUT) {
         Ok(outputs) => Ok(outputs),
         Err(End::Refused(offset)) => Err(End::Refused(ReplayRefusal::OutputCell(offset))),
         Err(End::OutOfMemory) => Err(End::OutOfMemory),

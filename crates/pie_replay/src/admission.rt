@@ -1,10 +1,10 @@
-ghost use Rattle.std.specs.Prelude.{◌≡◌, ℕ, List, IfOk, Err};
-ghost use Rattle.cairo_model.specs.RefusalViews.{refused as refused_by};
-ghost use Rattle.cairo_model.specs.Verdicts.{IsVerdict, Verdict, admitted as admitted_with};
+ghost use Rattle.std.specs.Prelude.{◌≡◌, IfOk, Err};
+ghost use Rattle.cairo_model.specs.Views.Refusals.{refused as refused_by};
+ghost use Rattle.cairo_model.specs.Refusals.Verdicts.{IsVerdict, admitted as admitted_with};
 
 use crate::acceptance::replay;
 use cairo_model::{Checked, End, Refusal};
-use pie_format::{one_first_cause, one_pie, pie_has_no_cause, read};
+use pie_format::read;
 use std::alloc::Global;
 
 /// The verdict on the bytes of a file (docs/PIE.md): the PIE that they are, with its fact and its isolated states, where
@@ -23,13 +23,4 @@ pub fn admit(alloc: Global, bytes: &[u8]) -> Result<Checked, End<Refusal>>
         Err(End::Refused(refusal)) => Err(End::Refused(Refusal::Replay(refusal))),
         Err(End::OutOfMemory) => Err(End::OutOfMemory),
     }
-}
-
-/// The bytes have one verdict at most.
-pub fn one_verdict()
-    ensures { (bytes : List ℕ) (v w : Verdict) → IsVerdict bytes v → IsVerdict bytes w → v ≡ w }
-{
-    one_pie();
-    pie_has_no_cause();
-    one_first_cause();
 }

@@ -1,8 +1,8 @@
 ghost use Rattle.std.specs.Prelude.{◌≡◌, ◌+◌, ◌<◌, map, length, IfOk, Err};
-ghost use Rattle.cairo_model.specs.Machine.{value_arithmetic, RunsTo};
-ghost use Rattle.cairo_model.specs.Views.{registers};
+ghost use Rattle.cairo_model.specs.Machine.Steps.{value_arithmetic, RunsTo};
+ghost use Rattle.cairo_model.specs.Views.Machine.{registers};
 ghost use Rattle.seg_memory.specs.Memory.{memory_in};
-ghost use Rattle.cairo_model.specs.ReplayRefusals.{FailsAfter};
+ghost use Rattle.cairo_model.specs.Refusals.ReplayRefusals.{FailsAfter};
 
 use crate::value_step::step_value;
 use cairo_model::{End, State, StepFault};

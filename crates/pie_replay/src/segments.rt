@@ -1,10 +1,11 @@
-ghost use Rattle.std.specs.Prelude.{◌≡◌, ◌<◌, ◌^◌, ◌↔◌, ℕ, map, IsTrue, IfOk, IfSome, IfNone, Some, Err, option_map};
-ghost use Rattle.cairo_model.specs.Acceptance.{HoldsNumbers};
-ghost use Rattle.cairo_model.specs.Pies.{memory_of, value_at, segment_size, KeepsRules};
-ghost use Rattle.cairo_model.specs.ReplayRefusals.{HasNumber, IsFirstGap};
-ghost use Rattle.cairo_model.specs.Values.{number, place};
-ghost use Rattle.cairo_model.specs.Views.{datum};
-ghost use Rattle.pie_replay.specs.Replaying.{IsMemoryOf};
+ghost use Rattle.std.specs.Prelude.{◌≡◌, ◌<◌, ◌↔◌, ℕ, map, IsTrue, IfOk, IfSome, IfNone, Some, Err, option_map};
+ghost use Rattle.cairo_model.specs.Limits.{offset_limit};
+ghost use Rattle.cairo_model.specs.Pie.Acceptance.{HoldsNumbers};
+ghost use Rattle.cairo_model.specs.Pie.Records.{memory_of, value_at, segment_size, KeepsRules};
+ghost use Rattle.cairo_model.specs.Refusals.ReplayRefusals.{HasNumber, IsFirstGap};
+ghost use Rattle.cairo_model.specs.Machine.Values.{number, place};
+ghost use Rattle.cairo_model.specs.Views.Machine.{datum};
+ghost use Rattle.pie_replay.specs.Working.Replaying.{IsMemoryOf};
 
 use cairo_model::{End, Pie, Place, Value};
 use goldi_field::Felt;
@@ -12,10 +13,10 @@ use seg_memory::SegMemory;
 use std::alloc::Global;
 
 /// The size of a segment in cells, 0 where there is none.
-pub(crate) fn size_of(pie: &Pie, segment: usize) -> u32
+pub(crate) fn size_of(pie: &Pie, segment: u16) -> u32
     ensures { result ≡ segment_size pie.now segment }
 {
-    match pie.sizes.get(segment) {
+    match pie.sizes.get(segment as usize) {
         Some(size) => *size,
         None => 0,
     }
@@ -40,7 +41,7 @@ pub(crate) fn value_by(memory: &SegMemory, pie: &Pie, address: Value) -> Option<
 /// The number that stands at a place, if one does.
 pub(crate) fn number_at(memory: &SegMemory, pie: &Pie, segment: u16, offset: u32) -> Option<Felt>
     requires cells { IsMemoryOf memory.now pie.now }
-    requires near { offset < 2 ^ 31 }
+    requires near { offset < offset_limit }
     ensures some { IfSome result (λ n. value_at pie.now.cells segment offset ≡ Some (number n.number)) }
     ensures none { IfNone result (¬ HasNumber pie.now.cells segment offset) }
 {
@@ -63,7 +64,7 @@ pub(crate) fn numbers_in(
     ensures gap { (i : ℕ) → result ≡ Err (End.Refused i) → IsFirstGap pie.now segment i }
 {
     let mut numbers = Vec::new(alloc);
-    for offset in 0..size_of(pie, segment as usize) {
+    for offset in 0..size_of(pie, segment) {
         match number_at(memory, pie, segment, offset) {
             Some(n) => numbers.push(n)?,
             None => return Err(End::Refused(offset)),
@@ -80,7 +81,7 @@ pub(crate) fn is_value(a: Value, b: Value) -> bool
 }
 
 pub(crate) fn place_value(segment: u16, offset: u32) -> Value
-    requires { offset < 2 ^ 31 }
+    requires { offset < offset_limit }
     ensures { datum result ≡ place segment offset }
 {
     Value::At(Place { segment, offset })

@@ -1,17 +1,16 @@
 ghost use Rattle.std.specs.Prelude.{◌≡◌, Ok, Err, Result, MatchResult, ok_or, option_map};
-ghost use Rattle.cairo_model.specs.Machine.{Registers, value_arithmetic, next, found, spelled, after as after_of, register_in, op1_from, result_of, next_pc as next_pc_of, next_ap as next_ap_of, next_fp as next_fp_of, keeps_call as call_test, keeps_assert as assert_test};
-ghost use Rattle.cairo_model.specs.Views.{registers, datum};
+ghost use Rattle.cairo_model.specs.Machine.Steps.{Registers, value_arithmetic, next, found, spelled, after as after_of, register_in, op1_from, result_of, next_pc as next_pc_of, next_ap as next_ap_of, next_fp as next_fp_of, keeps_call as call_test, keeps_assert as assert_test};
+ghost use Rattle.cairo_model.specs.Views.Machine.{registers, datum};
 ghost use Rattle.cairo_word.specs.Instructions.{fields};
 ghost use Rattle.seg_memory.specs.Memory.{memory_in};
 
-use cairo_model::{State, StepFault, Value, add, felt_of, is_zero, mul};
-use cairo_step::{offset_felt, size_felt};
+use cairo_model::{State, StepFault, Value, add, felt_of, is_zero, mul, offset_felt, size_felt};
 use cairo_word::{Instruction, Reg, decode};
 use goldi_field::Felt;
 use seg_memory::SegMemory;
 
 /// The state after one step of the machine over values (docs/MACHINE.md), or the first fault. Takes no memory.
-#[tactic(auto, unfolding(cairo_model::specs::Machine::next))]
+#[tactic(auto, unfolding(cairo_model::specs::Machine::Steps::next))]
 pub fn step_value(memory: &SegMemory, state: State) -> Result<State, StepFault>
     ensures { MatchResult result
         (λ after. next value_arithmetic (memory_in memory.now) (registers state) ≡ Ok (registers after))

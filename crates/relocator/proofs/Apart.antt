@@ -7,13 +7,13 @@ use Rattle.std.proofs.lemmas.List.{get_or-map, length-map}
 use Rattle.std.proofs.lemmas.List.Elements.{All-get_or}
 use Rattle.std.proofs.lemmas.Map.Keys.{IsDistinct-from_apart}
 use Rattle.goldi_field.specs.Numbers.{sum_of}
-use Rattle.cairo_model.specs.Values.{place}
-use Rattle.cairo_model.specs.Pies.{MemoryCell, PieRecord, IsCellOf, KeepsRules, place_number}
-use Rattle.cairo_model.specs.Layouts.{Fits, base_of, relocated, relocated_cell}
-use Rattle.cairo_model.specs.FieldMemories.{addresses}
+use Rattle.cairo_model.specs.Machine.Values.{place}
+use Rattle.cairo_model.specs.Pie.Records.{MemoryCell, PieRecord, IsCellOf, KeepsRules, place_number}
+use Rattle.cairo_model.specs.Pie.Layouts.{Fits, base_of, relocated, relocated_cell}
+use Rattle.cairo_model.specs.Machine.FieldMemories.{addresses}
 use Rattle.cairo_model.proofs.Searching.{key_is, keys_rise, map_twice}
 use Rattle.cairo_model.proofs.Lists.{at_some}
-use Rattle.relocator.proofs.PieMemories.{key_of, offset_below}
+use Rattle.cairo_model.proofs.PieMemories.{key_of, offset_below}
 
 one_spot : (s o t q : ℕ) (b : ℕ → ℕ) → (s ≢ t → b s + o ≢ b t + q) → b s + o ≡ b t + q → place_number s o ≡ place_number t q
 one_spot s o t q b apart same =

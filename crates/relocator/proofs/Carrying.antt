@@ -3,7 +3,7 @@ use Rattle.std.proofs.Common.{◌≡◌, ℕ, Bool, true, false, ◌==◌, if◌
 use Rattle.cairo_word.specs.Word.{Fields, instruction_size}
 use Rattle.cairo_word.specs.declared.word.Reg.{Reg}
 use Rattle.cairo_word.specs.declared.word.Reg.TheVariants.{Ap, Fp}
-use Rattle.cairo_model.specs.Machine.{Arithmetic, Registers, Moves, moved, found, spelled, register_in, after, op1_from, result_of, next_pc, next_ap, next_fp, offset_number, decoded}
+use Rattle.cairo_model.specs.Machine.Steps.{Arithmetic, Registers, Moves, moved, found, spelled, register_in, after, op1_from, result_of, next_pc, next_ap, next_fp, offset_number, decoded}
 use Rattle.cairo_model.proofs.Outcomes.{some_is, and_then_gives, and_then_goes}
 
 -- A map from one arithmetic to another that keeps what is defined. It need keep the test for zero at good values alone.

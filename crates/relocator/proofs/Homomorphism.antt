@@ -1,25 +1,27 @@
 -- Relocation carries steps and runs over values to the field.
 use Rattle.std.proofs.Common.{◌≡◌, ℕ, List, [], ◌∷◌, map, length, Option, Some, refl, sym, ap, ◌∙◌}
-use Rattle.cairo_model.specs.Values.{Datum, number, place, number_in}
-use Rattle.cairo_model.specs.Machine.{Registers, field_arithmetic, value_arithmetic, Run, RunFrom, RunsTo, last_of}
+use Rattle.cairo_model.specs.Machine.Values.{Datum, number, place, number_in}
+use Rattle.cairo_model.specs.Machine.Steps.{Registers, field_arithmetic, value_arithmetic, Run, RunFrom, RunsTo, last_of}
 use Rattle.cairo_model.proofs.Inversion.{moves, moved_so, field_exact, value_exact}
-use Rattle.relocator.specs.Relocations.{AllValuesIn, HasRelocated, KeepsArithmetic, KeepsSteps}
-use Rattle.cairo_model.specs.Layouts.{AreInBounds, relocated, relocated_state}
-use Rattle.cairo_model.specs.Pies.{IsValueIn}
+use Rattle.cairo_model.specs.Pie.Relocation.{HasRelocated}
+use Rattle.cairo_model.specs.Pie.Staying.{AllValuesIn}
+use Rattle.relocator.specs.Relocations.{KeepsArithmetic, KeepsSteps}
+use Rattle.cairo_model.specs.Pie.Layouts.{AreInBounds, relocated, relocated_state}
+use Rattle.cairo_model.specs.Pie.Records.{IsValueIn}
 use Rattle.relocator.proofs.Carrying.{Carries, step_carried}
 
 number_is : (bases : List ℕ) (a : Datum) (n : ℕ) → number_in a ≡ Some n → ◌≡◌ {A = Option ℕ} (Some (relocated bases a)) (Some n)
 number_is bases (number a) n e = e
 number_is bases (place s o) n e = absurd (cc)
 
-module _ (arithmetic : (bases : List ℕ) → AreInBounds bases → KeepsArithmetic bases) (bases : List ℕ) (are : AreInBounds bases) where
+module _ (arithmetic : (bases : List ℕ) → KeepsArithmetic bases) (bases : List ℕ) (are : AreInBounds bases) where
   carries : Carries value_arithmetic field_arithmetic (relocated bases) (IsValueIn (length bases))
   carries = record {
-    sums = λ a b c e. ap (λ (x : ℕ). Some x) (sym ((arithmetic bases are).sums a b c e));
-    products = λ a b c e. ap (λ (x : ℕ). Some x) (sym ((arithmetic bases are).products a b c e));
+    sums = λ a b c e. ap (λ (x : ℕ). Some x) (sym ((arithmetic bases).sums a b c e));
+    products = λ a b c e. ap (λ (x : ℕ). Some x) (sym ((arithmetic bases).products a b c e));
     numerals = λ n. refl;
     reads = number_is bases;
-    zeros = (arithmetic bases are).zeros;
+    zeros = (arithmetic bases).zeros are;
   }
 
   pub keeps : KeepsSteps bases

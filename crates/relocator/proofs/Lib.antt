@@ -1,6 +1,6 @@
 pub mod Apart
 pub mod Carrying
-pub mod Finding
+pub mod Convention
 pub mod Homomorphism
 pub mod ListFacts
 pub mod ListsIn
@@ -8,9 +8,6 @@ pub mod LoneAcceptance
 pub mod LoneCertificate
 pub mod LoneLayout
 pub mod OnePlacement
-pub mod PieMemories
 pub mod PlacedCells
-pub mod PlacedRuns
 pub mod RunsPlaced
 pub mod Spelling
-pub mod Staying

@@ -6,15 +6,16 @@ use Rattle.std.proofs.lemmas.List.{length-map}
 use Rattle.goldi_field.specs.declared.Felt.{Felt}
 use Rattle.cairo_model.specs.declared.pie.PieCell.{PieCell}
 use Rattle.cairo_model.specs.declared.state.State.{State}
-use Rattle.cairo_model.specs.Values.{Datum, number, place}
-use Rattle.cairo_model.specs.Machine.{Registers}
-use Rattle.cairo_model.specs.Pies.{PieRecord, KeepsRules, IsCellOf, IsValueIn, segment_size}
-use Rattle.cairo_model.specs.PieViews.{memory_cell}
-use Rattle.cairo_model.specs.Views.{datum, registers}
-use Rattle.cairo_model.specs.Acceptance.{start_of}
+use Rattle.cairo_model.specs.Machine.Values.{Datum, number, place}
+use Rattle.cairo_model.specs.Machine.Steps.{Registers}
+use Rattle.cairo_model.specs.Pie.Records.{PieRecord, KeepsRules, IsCellOf, IsValueIn, memory_of, segment_size}
+use Rattle.cairo_model.specs.Views.Pie.{memory_cell}
+use Rattle.cairo_model.specs.Views.Machine.{datum, registers}
+use Rattle.cairo_model.specs.Pie.Acceptance.{stack_start, start_of}
+use Rattle.cairo_model.specs.Segments.{builtin_mask, program_segment}
 use Rattle.relocator.specs.Relocations.{IsIn}
-use Rattle.relocator.specs.Staying.{AreIn, StatesStay, StartsInside}
-use Rattle.relocator.specs.Lists.{numbers, IsCellIn, IsStateIn}
+use Rattle.cairo_model.specs.Pie.Staying.{AreIn, StatesStay}
+use Rattle.relocator.specs.Working.Lists.{numbers, IsCellIn, IsStateIn, StartsInside}
 use Rattle.relocator.proofs.ListFacts.{all_from_map}
 
 value_in : (count : ℕ) (d : Datum) → IsValueIn count d → IsIn count d
@@ -36,16 +37,16 @@ states_in count states all =
     (λ s are. record { pc_in = value_in count (datum s.pc) are.pc; ap_in = value_in count (datum s.ap) are.ap; fp_in = value_in count (datum s.fp) are.fp })
     states (all_from_map (AreIn count) registers states all)
 
-pub start_in : (pie : PieRecord) → KeepsRules pie → pie.main < segment_size pie 0 → AreIn (length pie.sizes) (start_of pie)
+pub start_in : (pie : PieRecord) → KeepsRules pie → pie.main < segment_size pie program_segment → AreIn (length pie.sizes) (start_of pie)
 start_in pie rules inside =
     let sizes = rules.are_sizes in
     let code = get_or-le-sum_by (λ (x : ℕ). x) pie.sizes 0 0 (omega (arith, sizes.at_least)) in
-    let in_execution : IsValueIn (length pie.sizes) (place 1 5) = record { in_segments = omega (arith, sizes.at_least); is_near = omega arith } in
+    let in_execution : IsValueIn (length pie.sizes) (stack_start builtin_mask) = record { in_segments = omega (arith, sizes.at_least); is_near = omega arith } in
     record {
       pc = record { in_segments = omega (arith, sizes.at_least); is_near = omega (arith, code, sizes.in_all, inside) };
       ap = in_execution;
       fp = in_execution;
     }
 
-pub run_in : ((pie : PieRecord) → KeepsRules pie → StatesStay (length pie.sizes) pie.cells) → (pie : PieRecord) (states : List (Registers Datum)) → StartsInside pie states → All (AreIn (length pie.sizes)) states
+pub run_in : ((pie : PieRecord) → KeepsRules pie → StatesStay (length pie.sizes) (memory_of pie.cells)) → (pie : PieRecord) (states : List (Registers Datum)) → StartsInside pie states → All (AreIn (length pie.sizes)) states
 run_in stay pie states starts = stay pie starts.rules (start_of pie) starts.last states (start_in pie starts.rules starts.main_in_code) starts.runs

@@ -1,18 +1,19 @@
 -- The machine accepts the certificate of a PIE alone.
 use Rattle.std.proofs.Common.{ℕ, List, Some, refl, sym, ap, subst, ◌∙◌, arith, lit<}
-use Rattle.cairo_model.specs.Values.{Datum}
-use Rattle.cairo_model.specs.Machine.{Registers, field_arithmetic, RunsTo}
-use Rattle.cairo_model.specs.Pies.{PieRecord, KeepsRules, segment_size}
-use Rattle.cairo_model.specs.FieldMemories.{cell_at}
-use Rattle.cairo_model.specs.Layouts.{AreInBounds, Fits, lone_bases, relocated, relocated_state}
-use Rattle.cairo_model.specs.Acceptance.{CheckedRecord, AcceptedWith, start_of}
-use Rattle.cairo_model.specs.Certificates.{CertRecord, SpanRecord}
-use Rattle.cairo_model.specs.MachineAcceptance.{MachineAccepts, SpanHolds}
+use Rattle.cairo_model.specs.Machine.Values.{Datum}
+use Rattle.cairo_model.specs.Machine.Steps.{Registers, field_arithmetic, RunsTo}
+use Rattle.cairo_model.specs.Pie.Records.{PieRecord, KeepsRules, segment_size}
+use Rattle.cairo_model.specs.Machine.FieldMemories.{cell_at}
+use Rattle.cairo_model.specs.Pie.Layouts.{Fits, lone_bases, relocated, relocated_state}
+use Rattle.cairo_model.specs.Pie.Acceptance.{CheckedRecord, AcceptedWith, start_of}
+use Rattle.cairo_model.specs.Certificate.Records.{CertRecord, SpanRecord}
+use Rattle.cairo_model.specs.Certificate.Acceptance.{MachineAccepts, SpanHolds}
 use Rattle.relocator.specs.Relocations.{KeepsArithmetic, RunsOverField}
 use Rattle.relocator.specs.LoneCertificates.{IsLoneCertificate}
+use Rattle.relocator.proofs.Convention as convention
 use Rattle.relocator.proofs.LoneAcceptance as lone
 
-module _ (arithmetic : (bases : List ℕ) → AreInBounds bases → KeepsArithmetic bases)
+module _ (arithmetic : (bases : List ℕ) → KeepsArithmetic bases)
     (anywhere : (bases : List ℕ) (pie : PieRecord) → Fits bases pie.sizes → KeepsRules pie → RunsOverField bases pie.cells)
     (fit : (pie : PieRecord) → KeepsRules pie → Fits (lone_bases pie.sizes) pie.sizes) where
   pub holds : (checked : CheckedRecord) (cert : CertRecord) → AcceptedWith checked.pie checked.fact checked.states → IsLoneCertificate checked cert
@@ -20,13 +21,12 @@ module _ (arithmetic : (bases : List ℕ) → AreInBounds bases → KeepsArithme
   holds checked cert accepted is =
       let bases = lone_bases checked.pie.sizes in
       let fits = fit checked.pie accepted.rules in
-      let keeps = arithmetic bases fits.in_bounds in
       let has = is.cells.has_each in
       let home = accepted.isolated.home in
-      let frame = lone.frame_carried bases checked fits keeps accepted cert.cells has in
-      let stops = lone.stop_carried bases checked fits keeps accepted cert.cells has in
-      let begins = lone.start_is bases checked fits keeps accepted cert.cells has in
-      let ends = lone.address_is bases checked fits keeps accepted cert.cells has in
+      let frame = convention.frame_carried checked accepted bases fits.one_each (arithmetic bases) (cell_at cert.cells) has in
+      let stops = convention.stop_carried checked accepted bases fits.one_each (arithmetic bases) (cell_at cert.cells) has in
+      let begins = lone.start_is bases checked fits accepted cert.cells has in
+      let ends = lone.address_is bases checked fits accepted cert.cells has in
       record {
         first = relocated_state bases (start_of checked.pie);
         last = relocated_state bases accepted.isolated.last;
@@ -43,13 +43,13 @@ module _ (arithmetic : (bases : List ℕ) → AreInBounds bases → KeepsArithme
         hash_stop = stops 2 (lit< tt) (lit< tt) ∙ ap Some (ends 4 (segment_size checked.pie 4) (lit< tt) (omega arith) ∙ ap (λ (s : SpanRecord). s.stop) (sym is.hash));
         outputs = checked.fact.outputs;
         has_outputs = subst (λ (s : SpanRecord). SpanHolds cert.cells s checked.fact.outputs) (sym is.output)
-            (lone.span_carried bases checked fits keeps accepted cert.cells has 2 checked.fact.outputs (lit< tt) accepted.shows.has_outputs);
+            (lone.span_carried bases checked fits accepted cert.cells has 2 checked.fact.outputs (lit< tt) accepted.shows.has_outputs);
         range_cells = accepted.range.numbers;
         has_range_cells = subst (λ (s : SpanRecord). SpanHolds cert.cells s accepted.range.numbers) (sym is.range)
-            (lone.span_carried bases checked fits keeps accepted cert.cells has 3 accepted.range.numbers (lit< tt) accepted.range.holds);
+            (lone.span_carried bases checked fits accepted cert.cells has 3 accepted.range.numbers (lit< tt) accepted.range.holds);
         are_range_cells = accepted.range.are_range_cells;
         instances = accepted.hash.numbers;
         has_instances = subst (λ (s : SpanRecord). SpanHolds cert.cells s accepted.hash.numbers) (sym is.hash)
-            (lone.span_carried bases checked fits keeps accepted cert.cells has 4 accepted.hash.numbers (lit< tt) accepted.hash.holds);
+            (lone.span_carried bases checked fits accepted cert.cells has 4 accepted.hash.numbers (lit< tt) accepted.hash.holds);
         are_instances = accepted.hash.are_instances;
       }

@@ -2,8 +2,8 @@
 use Rattle.std.proofs.Common.{◌≡◌, ℕ, zero, suc, ◌+◌, ◌<◌, ◌≤◌, List, [], ◌∷◌, inl, inr, length, sum, get_or, refl, ap, arith}
 use Rattle.std.proofs.lemmas.Bool.{cases_order}
 use Rattle.std.proofs.lemmas.List.Sums.{sum_by-cons}
-use Rattle.cairo_model.specs.Pies.{PieRecord, KeepsRules}
-use Rattle.cairo_model.specs.Layouts.{Fits, IsApart, bases_from, lone_bases}
+use Rattle.cairo_model.specs.Pie.Records.{PieRecord, KeepsRules}
+use Rattle.cairo_model.specs.Pie.Layouts.{Fits, IsApart, bases_from, lone_bases}
 
 pub count_of : (base : ℕ) (sizes : List ℕ) → length (bases_from base sizes) ≡ length sizes
 count_of base [] = refl

@@ -4,14 +4,14 @@ use Rattle.std.specs.List.{Contains}
 use Rattle.std.proofs.lemmas.List.{get_or-map, length-map}
 use Rattle.std.proofs.lemmas.List.Kept.{AllPairs-from_increasing}
 use Rattle.std.proofs.lemmas.List.Sorted.{Contains-permutation, IsPermutation-sym}
-use Rattle.cairo_model.specs.Acceptance.{CheckedRecord}
-use Rattle.cairo_model.specs.Certificates.{CertRecord}
-use Rattle.cairo_model.specs.FieldMemories.{FieldCell, addresses, AddressesRise}
-use Rattle.cairo_model.specs.Layouts.{lone_bases, relocated_cell}
-use Rattle.cairo_model.specs.Pies.{MemoryCell}
+use Rattle.cairo_model.specs.Pie.Acceptance.{CheckedRecord}
+use Rattle.cairo_model.specs.Certificate.Records.{CertRecord}
+use Rattle.cairo_model.specs.Machine.FieldMemories.{FieldCell, addresses, AddressesRise}
+use Rattle.cairo_model.specs.Pie.Layouts.{lone_bases, relocated_cell}
+use Rattle.cairo_model.specs.Pie.Records.{MemoryCell}
 use Rattle.relocator.specs.LoneCertificates.{IsLoneCertificate}
 use Rattle.relocator.specs.Placing.{ArePlaced}
-use Rattle.relocator.proofs.Finding.{in_tail, in_list}
+use Rattle.cairo_model.proofs.Finding.{in_tail, in_list}
 
 rise_rest : (x : FieldCell) (xs : List FieldCell) → AddressesRise (x ∷ xs) → AddressesRise xs
 rise_rest x xs rise k lt =

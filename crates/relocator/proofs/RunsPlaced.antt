@@ -1,12 +1,13 @@
 -- The isolated run of a PIE, placed.
 use Rattle.std.proofs.Common.{ℕ, List, map, Option}
-use Rattle.cairo_model.specs.Pies.{PieRecord, KeepsRules}
-use Rattle.cairo_model.specs.FieldMemories.{FieldCell}
-use Rattle.cairo_model.specs.Layouts.{Fits, relocated_state}
-use Rattle.cairo_model.specs.Acceptance.{CheckedRecord, AcceptedWith, start_of}
-use Rattle.relocator.specs.Placing.{ArePlaced, HasCells, RunsAsPlaced}
+use Rattle.cairo_model.specs.Pie.Records.{PieRecord, KeepsRules}
+use Rattle.cairo_model.specs.Machine.FieldMemories.{FieldCell}
+use Rattle.cairo_model.specs.Pie.Layouts.{Fits, relocated_state}
+use Rattle.cairo_model.specs.Pie.Acceptance.{CheckedRecord, AcceptedWith, start_of}
+use Rattle.cairo_model.specs.Pie.Relocation.{HasCells}
+use Rattle.relocator.specs.Placing.{ArePlaced, RunsAsPlaced}
 use Rattle.relocator.specs.Relocations.{RunsOverField}
-use Rattle.relocator.specs.Staying.{StartsInside}
+use Rattle.relocator.specs.Working.Lists.{StartsInside}
 
 pub starts_inside : (checked : CheckedRecord) → AcceptedWith checked.pie checked.fact checked.states → StartsInside checked.pie checked.states
 starts_inside checked accepted = record { rules = accepted.rules; main_in_code = accepted.main_in_code; last = accepted.isolated.last; runs = accepted.isolated.runs }

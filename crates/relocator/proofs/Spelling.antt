@@ -2,10 +2,10 @@
 use Rattle.std.proofs.Common.{◌≡◌, ℕ, ◌^◌, ◌<◌, List, [], length, All, ap, ◌∙◌, arith}
 use Rattle.std.proofs.lemmas.List.{length-map}
 use Rattle.std.proofs.lemmas.List.Sorted.{length_permutation}
-use Rattle.cairo_model.specs.Acceptance.{CheckedRecord, AcceptedWith}
-use Rattle.cairo_model.specs.Certificates.{CertRecord, MarkRecord, HasSpelling}
-use Rattle.cairo_model.specs.Machine.{Registers}
-use Rattle.cairo_model.specs.Layouts.{lone_bases, relocated_cell, relocated_state}
+use Rattle.cairo_model.specs.Pie.Acceptance.{CheckedRecord, AcceptedWith}
+use Rattle.cairo_model.specs.Certificate.Records.{CertRecord, MarkRecord, HasSpelling}
+use Rattle.cairo_model.specs.Machine.Steps.{Registers}
+use Rattle.cairo_model.specs.Pie.Layouts.{lone_bases, relocated_cell, relocated_state}
 use Rattle.relocator.specs.LoneCertificates.{IsLoneCertificate}
 use Rattle.cairo_model.proofs.CellCount.{few_cells}
 

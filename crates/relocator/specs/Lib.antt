@@ -1,5 +1,4 @@
-pub mod Lists
 pub mod LoneCertificates
 pub mod Placing
 pub mod Relocations
-pub mod Staying
+pub mod Working

@@ -1,8 +1,9 @@
 -- The certificate of a PIE alone (docs/CERTIFICATE.md, 'Placing').
 use Rattle.std.specs.Prelude.{ℕ, ◌≡◌, ◌+◌, List, [], map, slice_index}
-use Rattle.cairo_model.specs.Acceptance.{CheckedRecord}
-use Rattle.cairo_model.specs.Certificates.{CertRecord, SpanRecord, alone}
-use Rattle.cairo_model.specs.Layouts.{base_of, lone_bases, relocated_state}
+use Rattle.cairo_model.specs.Segments.{output_segment, range_segment, hash_segment}
+use Rattle.cairo_model.specs.Pie.Acceptance.{CheckedRecord}
+use Rattle.cairo_model.specs.Certificate.Records.{CertRecord, SpanRecord, alone}
+use Rattle.cairo_model.specs.Pie.Layouts.{base_of, lone_bases, relocated_state}
 use Rattle.relocator.specs.Placing.{ArePlaced}
 
 -- a segment's stretch of addresses, from its base to its base and size
@@ -15,6 +16,6 @@ pub record IsLoneCertificate (checked : CheckedRecord) (cert : CertRecord) : Typ
   pub tasks : cert.tasks ≡ []
   pub cells : ArePlaced (lone_bases checked.pie.sizes) checked.pie.cells cert.cells
   pub states : cert.states ≡ map (relocated_state (lone_bases checked.pie.sizes)) checked.states
-  pub output : cert.output ≡ stretch_of (lone_bases checked.pie.sizes) checked.pie.sizes 2
-  pub range : cert.range ≡ stretch_of (lone_bases checked.pie.sizes) checked.pie.sizes 3
-  pub hash : cert.hash ≡ stretch_of (lone_bases checked.pie.sizes) checked.pie.sizes 4
+  pub output : cert.output ≡ stretch_of (lone_bases checked.pie.sizes) checked.pie.sizes output_segment
+  pub range : cert.range ≡ stretch_of (lone_bases checked.pie.sizes) checked.pie.sizes range_segment
+  pub hash : cert.hash ≡ stretch_of (lone_bases checked.pie.sizes) checked.pie.sizes hash_segment

@@ -1,13 +1,13 @@
 -- The cells and states of a PIE, placed by a layout.
 use Rattle.std.specs.Prelude.{ℕ, ◌≡◌, List, map, Option, Some}
 use Rattle.std.specs.List.Sorted.{IsPermutation}
-use Rattle.cairo_model.specs.Values.{Datum}
-use Rattle.cairo_model.specs.Pies.{MemoryCell, memory_of}
-use Rattle.cairo_model.specs.FieldMemories.{FieldCell, AddressesRise, cell_at}
-use Rattle.cairo_model.specs.Layouts.{relocated, relocated_cell, relocated_state}
-use Rattle.cairo_model.specs.Machine.{Registers, field_arithmetic, RunsTo}
-use Rattle.cairo_model.specs.Acceptance.{CheckedRecord, IsHome, start_of}
-use Rattle.relocator.specs.Relocations.{HasRelocated}
+use Rattle.cairo_model.specs.Machine.Values.{Datum}
+use Rattle.cairo_model.specs.Pie.Records.{MemoryCell, memory_of}
+use Rattle.cairo_model.specs.Machine.FieldMemories.{FieldCell, AddressesRise, cell_at}
+use Rattle.cairo_model.specs.Pie.Layouts.{relocated, relocated_cell, relocated_state}
+use Rattle.cairo_model.specs.Machine.Steps.{Registers, field_arithmetic, RunsTo}
+use Rattle.cairo_model.specs.Pie.Acceptance.{CheckedRecord, IsHome, start_of}
+use Rattle.cairo_model.specs.Pie.Relocation.{HasRelocated}
 
 -- a cell of the memory that is found at this address with this value once it is relocated
 pub record IsRelocatedCell (bases : List ℕ) (cells : List MemoryCell) (address value : ℕ) : Type 0 where
@@ -23,10 +23,6 @@ pub record ArePlaced (bases : List ℕ) (cells : List MemoryCell) (out : List Fi
   pub has_each : HasRelocated bases (memory_of cells) (cell_at out)
   pub has_no_other : (address value : ℕ) → cell_at out address ≡ Some value → IsRelocatedCell bases cells address value
   pub same_cells : IsPermutation (map (relocated_cell bases) cells) out
-
--- the field memory has each of these cells
-abbrev pub HasCells : List FieldCell → (ℕ → Option ℕ) → Type 0
-HasCells cells field = (address value : ℕ) → cell_at cells address ≡ Some value → field address ≡ Some value
 
 -- the states are a run over the field from the start of the PIE's isolated run, relocated, to its end
 pub record RunsAsPlaced (bases : List ℕ) (checked : CheckedRecord) (field : ℕ → Option ℕ) (states : List (Registers ℕ)) : Type 0 where

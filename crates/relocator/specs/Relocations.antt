@@ -1,31 +1,26 @@
 -- Relocation carries the machine over values to the machine over the field (docs/MACHINE.md).
 use Rattle.std.specs.Prelude.{ℕ, ◌≡◌, ◌<◌, List, length, map, Option, Some}
 use Rattle.goldi_field.specs.Numbers.{sum_of, difference_of, product_of}
-use Rattle.cairo_model.specs.Values.{Datum, number, place, Sum, Difference, Product, is_zero_datum}
-use Rattle.cairo_model.specs.Machine.{Registers, field_arithmetic, value_arithmetic, Step, Run, RunsTo}
-use Rattle.cairo_model.specs.Pies.{MemoryCell, IsValueIn, memory_of}
-use Rattle.cairo_model.specs.Layouts.{relocated, relocated_state}
+use Rattle.cairo_model.specs.Machine.Values.{Datum, number, place, Sum, Difference, Product, is_zero_datum}
+use Rattle.cairo_model.specs.Machine.Steps.{Registers, field_arithmetic, value_arithmetic, Step, Run, RunsTo}
+use Rattle.cairo_model.specs.Pie.Records.{MemoryCell, IsValueIn, memory_of}
+use Rattle.cairo_model.specs.Pie.Layouts.{AreInBounds, relocated, relocated_state}
+use Rattle.cairo_model.specs.Pie.Relocation.{HasRelocated}
+use Rattle.cairo_model.specs.Pie.Staying.{AllValuesIn}
 
 -- a place's segment is below so many
 abbrev pub IsIn : ℕ → Datum → Type 0
 IsIn segments (number n) = Unit {0}
 IsIn segments (place s o) = s < segments
 
--- each value of a memory is a field number, or a place in one of so many segments
-abbrev pub AllValuesIn : ℕ → (Datum → Option Datum) → Type 0
-AllValuesIn segments m = (a v : Datum) → m a ≡ Some v → IsValueIn segments v
-
--- the field memory has each cell of the memory, relocated
-abbrev pub HasRelocated : List ℕ → (Datum → Option Datum) → (ℕ → Option ℕ) → Type 0
-HasRelocated bases m field = (a v : Datum) → m a ≡ Some v → field (relocated bases a) ≡ Some (relocated bases v)
-
--- Relocation is a homomorphism of the two arithmetics where value arithmetic is defined.
+-- Relocation by any bases is a homomorphism of the two arithmetics where value arithmetic is defined. The test for zero
+-- alone asks for bases in their bounds: at a base of 0 a place would become 0.
 pub record KeepsArithmetic (bases : List ℕ) : Type 0 where
   pub sums : (a b c : Datum) → Sum a b ≡ Some c → relocated bases c ≡ sum_of (relocated bases a) (relocated bases b)
   pub differences : (a b c : Datum) → IsValueIn (length bases) a → IsValueIn (length bases) b → Difference a b ≡ Some c
       → relocated bases c ≡ difference_of (relocated bases a) (relocated bases b)
   pub products : (a b c : Datum) → Product a b ≡ Some c → relocated bases c ≡ product_of (relocated bases a) (relocated bases b)
-  pub zeros : (a : Datum) → IsValueIn (length bases) a → is_zero_datum a ≡ field_arithmetic.is_zero (relocated bases a)
+  pub zeros : AreInBounds bases → (a : Datum) → IsValueIn (length bases) a → is_zero_datum a ≡ field_arithmetic.is_zero (relocated bases a)
 
 abbrev pub KeepsSteps : List ℕ → Type 0
 KeepsSteps bases = (m : Datum → Option Datum) (field : ℕ → Option ℕ) → AllValuesIn (length bases) m → HasRelocated bases m field

@@ -1,12 +1,11 @@
-ghost use Rattle.std.specs.Prelude.{ℕ, List, length};
-ghost use Rattle.cairo_model.specs.Layouts.{AreInBounds, Fits};
-ghost use Rattle.cairo_model.specs.Pies.{PieRecord, KeepsRules};
+ghost use Rattle.std.specs.Prelude.{ℕ, List};
+ghost use Rattle.cairo_model.specs.Pie.Layouts.{AreInBounds, Fits};
+ghost use Rattle.cairo_model.specs.Pie.Records.{PieRecord, KeepsRules};
 ghost use Rattle.relocator.specs.Relocations.{KeepsArithmetic, KeepsSteps, KeepsRuns, RunsOverField};
-ghost use Rattle.relocator.specs.Staying.{StatesStay};
 
-/// Where the arithmetic of values is defined, the field agrees with it.
+/// Where the arithmetic of values is defined, the field agrees with it, whatever the bases.
 pub fn keeps_arithmetic()
-    ensures { (bases : List ℕ) → AreInBounds bases → KeepsArithmetic bases }
+    ensures { (bases : List ℕ) → KeepsArithmetic bases }
 {}
 
 /// A step over values, relocated, is a step over each field memory that has the relocated cells.
@@ -30,8 +29,3 @@ pub fn runs_anywhere()
 {
     keeps_arithmetic();
 }
-
-/// A run over the cells of a PIE that begins in its segments stays there.
-pub fn states_stay()
-    ensures { (pie : PieRecord) → KeepsRules pie → StatesStay (length pie.sizes) pie.cells }
-{}

@@ -9,7 +9,7 @@ mod relocating;
 mod sorting;
 mod values;
 
-pub use laws::{keeps_arithmetic, keeps_runs, keeps_steps, runs_anywhere, states_stay};
+pub use laws::{keeps_arithmetic, keeps_runs, keeps_steps, runs_anywhere};
 pub use lone_certificate::{lone_cert, lone_certificates_hold, one_lone_certificate};
 pub use lone_layout::{alone, lone_layout_fits};
 pub use relocating::{Placed, relocate};

@@ -1,9 +1,9 @@
 ghost use Rattle.std.specs.Prelude.{◌≡◌, length, map, All, IfOk};
-ghost use Rattle.cairo_model.specs.FieldMemories.{field_cell};
-ghost use Rattle.cairo_model.specs.Layouts.{relocated_cell, relocated_state};
-ghost use Rattle.cairo_model.specs.PieViews.{memory_cell};
-ghost use Rattle.cairo_model.specs.Views.{registers, field_registers};
-ghost use Rattle.relocator.specs.Lists.{numbers, IsCellIn, IsStateIn};
+ghost use Rattle.cairo_model.specs.Machine.FieldMemories.{field_cell};
+ghost use Rattle.cairo_model.specs.Pie.Layouts.{relocated_cell, relocated_state};
+ghost use Rattle.cairo_model.specs.Views.Pie.{memory_cell};
+ghost use Rattle.cairo_model.specs.Views.Machine.{registers, field_registers};
+ghost use Rattle.relocator.specs.Working.Lists.{numbers, IsCellIn, IsStateIn};
 
 use crate::values::relocate_value;
 use cairo_model::{FieldState, PieCell, State, Value};

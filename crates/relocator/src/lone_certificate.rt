@@ -1,15 +1,16 @@
-ghost use Rattle.std.specs.Prelude.{◌≡◌, ◌≤◌, ◌<◌, ◌^◌, length, slice_index, IfOk};
-ghost use Rattle.cairo_model.specs.Acceptance.{CheckedRecord, AcceptedWith};
-ghost use Rattle.cairo_model.specs.Certificates.{CertRecord};
-ghost use Rattle.cairo_model.specs.CertificateViews.{span_of};
-ghost use Rattle.cairo_model.specs.Layouts.{base_of};
-ghost use Rattle.cairo_model.specs.MachineAcceptance.{MachineAccepts};
-ghost use Rattle.relocator.specs.Lists.{numbers};
+ghost use Rattle.std.specs.Prelude.{◌≡◌, ◌<◌, ◌^◌, length, IfOk};
+ghost use Rattle.cairo_model.specs.Pie.Acceptance.{CheckedRecord, AcceptedWith};
+ghost use Rattle.cairo_model.specs.Certificate.Records.{CertRecord};
+ghost use Rattle.cairo_model.specs.Views.Certificate.{span_of};
+ghost use Rattle.cairo_model.specs.Pie.Layouts.{base_of};
+ghost use Rattle.cairo_model.specs.Certificate.Acceptance.{MachineAccepts};
+ghost use Rattle.relocator.specs.Working.Lists.{numbers};
 ghost use Rattle.relocator.specs.LoneCertificates.{IsLoneCertificate, stretch_of};
 
 use crate::laws::{keeps_arithmetic, runs_anywhere};
 use crate::lone_layout::{alone, lone_layout_fits};
 use crate::relocating::relocate;
+use cairo_model::segments::{HASH, OUTPUT, RANGE};
 use cairo_model::{Cells, Cert, Checked, Kind, Span, felt_of};
 use goldi_field::Felt;
 use std::alloc::{AllocError, Global};
@@ -28,23 +29,23 @@ pub fn lone_cert(alloc: Global, checked: &Checked) -> Result<Cert, AllocError>
     let sizes = checked.pie().sizes.as_slice();
     Ok(Cert {
         kind: Kind::Alone,
-        output: stretch(bases, sizes, 2),
-        range: stretch(bases, sizes, 3),
-        hash: stretch(bases, sizes, 4),
+        output: stretch(bases, sizes, OUTPUT),
+        range: stretch(bases, sizes, RANGE),
+        hash: stretch(bases, sizes, HASH),
         tasks: Vec::new(alloc),
         cells: Cells::of(placed.cells),
         states: placed.states,
     })
 }
 
-fn stretch(bases: &[Felt], sizes: &[u32], segment: usize) -> Span
+fn stretch(bases: &[Felt], sizes: &[u32], segment: u16) -> Span
     requires has_base { segment < length bases.now }
     requires has_size { segment < length sizes.now }
     requires low { base_of (numbers bases.now) segment < 2 ^ 32 }
     ensures { span_of result ≡ stretch_of (numbers bases.now) sizes.now segment }
 {
-    let start = bases[segment];
-    let stop = start.add(felt_of(sizes[segment]));
+    let start = bases[segment as usize];
+    let stop = start.add(felt_of(sizes[segment as usize]));
     Span { start, stop }
 }
 

@@ -1,6 +1,7 @@
 ghost use Rattle.std.specs.Prelude.{◌≡◌, ◌≤◌, length, map, sum, IfOk};
-ghost use Rattle.cairo_model.specs.Layouts.{Fits, lone_bases};
-ghost use Rattle.cairo_model.specs.Pies.{PieRecord, KeepsRules};
+ghost use Rattle.cairo_model.specs.Limits.{most_cells, most_segments};
+ghost use Rattle.cairo_model.specs.Pie.Layouts.{Fits, lone_bases};
+ghost use Rattle.cairo_model.specs.Pie.Records.{PieRecord, KeepsRules};
 
 use cairo_model::{Layout, Pie, felt_of};
 use goldi_field::Felt;
@@ -18,8 +19,8 @@ pub fn alone(alloc: Global, pie: &Pie) -> Result<Layout, AllocError>
 }
 
 fn bases_alone(alloc: Global, sizes: &[u32]) -> Result<Vec<Felt>, AllocError>
-    requires few { length sizes.now ≤ 64 }
-    requires small { sum sizes.now ≤ 65536 }
+    requires few { length sizes.now ≤ most_segments }
+    requires small { sum sizes.now ≤ most_cells }
     ensures { IfOk result (λ bases. map (λ f. f.number) bases.items ≡ lone_bases sizes.now) }
 {
     let mut bases = Vec::new(alloc);

@@ -1,16 +1,16 @@
-ghost use Rattle.std.specs.Prelude.{◌≡◌, ℕ, Option, Some, map, IfOk};
-ghost use Rattle.cairo_model.specs.FieldMemories.{field_cell, cell_at};
-ghost use Rattle.cairo_model.specs.Layouts.{Fits, relocated_state};
-ghost use Rattle.cairo_model.specs.Pies.{KeepsRules};
-ghost use Rattle.cairo_model.specs.Views.{registers, field_registers};
-ghost use Rattle.relocator.specs.Lists.{numbers};
-ghost use Rattle.relocator.specs.Placing.{ArePlaced, HasCells, RunsAsPlaced};
-ghost use Rattle.relocator.specs.Staying.{StartsInside};
+ghost use Rattle.std.specs.Prelude.{◌≡◌, ℕ, Option, map, IfOk};
+ghost use Rattle.cairo_model.specs.Machine.FieldMemories.{field_cell, cell_at};
+ghost use Rattle.cairo_model.specs.Pie.Layouts.{Fits, relocated_state};
+ghost use Rattle.cairo_model.specs.Pie.Records.{KeepsRules};
+ghost use Rattle.cairo_model.specs.Views.Machine.{registers, field_registers};
+ghost use Rattle.cairo_model.specs.Pie.Relocation.{HasCells};
+ghost use Rattle.relocator.specs.Working.Lists.{numbers, StartsInside};
+ghost use Rattle.relocator.specs.Placing.{ArePlaced, RunsAsPlaced};
 
-use crate::laws::{runs_anywhere, states_stay};
+use crate::laws::runs_anywhere;
 use crate::lists::{relocate_cells, relocate_states};
 use crate::sorting::sorted_cells;
-use cairo_model::{Checked, FieldState, Layout, Pie, State};
+use cairo_model::{Checked, FieldState, Layout, Pie, State, pie_states_stay};
 use goldi_field::Felt;
 use std::alloc::{AllocError, Global};
 
@@ -58,6 +58,6 @@ fn place_states(
     requires runs { StartsInside pie.now (map registers states.now) }
     ensures { IfOk result (λ out. map field_registers out.items ≡ map (relocated_state (numbers bases.now)) (map registers states.now)) }
 {
-    states_stay();
+    pie_states_stay();
     relocate_states(alloc, states, bases)
 }

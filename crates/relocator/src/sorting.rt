@@ -2,7 +2,7 @@ ghost use Rattle.std.specs.Prelude.{◌≡◌, IfOk, map};
 ghost use Rattle.std.specs.List.{IsDistinct};
 ghost use Rattle.std.specs.List.Sorted.{IsPermutation};
 ghost use Rattle.std.specs.Prelude.{nat_eq};
-ghost use Rattle.cairo_model.specs.FieldMemories.{field_cell, addresses, AddressesRise};
+ghost use Rattle.cairo_model.specs.Machine.FieldMemories.{field_cell, addresses, AddressesRise};
 
 use goldi_field::Felt;
 use std::alloc::AllocError;

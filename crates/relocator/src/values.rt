@@ -1,6 +1,6 @@
 ghost use Rattle.std.specs.Prelude.{◌≡◌, length, map};
-ghost use Rattle.cairo_model.specs.Layouts.{relocated};
-ghost use Rattle.cairo_model.specs.Views.{datum};
+ghost use Rattle.cairo_model.specs.Pie.Layouts.{relocated};
+ghost use Rattle.cairo_model.specs.Views.Machine.{datum};
 ghost use Rattle.relocator.specs.Relocations.{IsIn};
 
 use cairo_model::{Value, felt_of};

@@ -1,43 +1,15 @@
 -- A memory that is filled with cells one after another.
-use Rattle.std.proofs.Common.{inl, inr, ◌≡◌, ℕ, ◌+◌, ◌<◌, ◌==◌, ◌&&◌, Bool, true, false, cond, List, [], ◌∷◌, ◌++◌, length, take, map, get_or, Option, Some, None, option_map, refl, sym, ap, ap₂, subst, ◌∙◌, suc, arith}
+use Rattle.std.proofs.Common.{inl, inr, ◌≡◌, ℕ, ◌+◌, ◌<◌, Bool, false, cond, List, [], ◌∷◌, ◌++◌, length, take, map, get_or, Option, Some, None, option_map, refl, sym, ap, ap₂, subst, ◌∙◌, suc, arith}
 use Rattle.std.specs.List.{find, All}
 use Rattle.std.specs.Option.{option_or}
 use Rattle.std.proofs.lemmas.Bool.{cases_eq}
-use Rattle.std.proofs.lemmas.Bool.Decides.{nat_tests}
 use Rattle.std.proofs.lemmas.List.{take_more, length-take, get_or-take, length-map, get_or-map}
 use Rattle.std.proofs.lemmas.List.Elements.{All-get_or}
-use Rattle.cairo_model.specs.Values.{Datum, number, place}
-use Rattle.cairo_model.specs.Pies.{MemoryCell, Rise, IsCellOf, place_number, stands_at, value_at, memory_of}
+use Rattle.cairo_model.specs.Machine.Values.{Datum, number, place}
+use Rattle.cairo_model.specs.Pie.Records.{MemoryCell, Rise, IsCellOf, place_number, stands_at, value_at, memory_of}
 use Rattle.cairo_model.proofs.Searching.{keys_rise, key_is}
+use Rattle.seg_memory.proofs.SeenCells.{value_here, value_push, stands, stands_not, or_none}
 use Rattle.seg_memory.specs.Memory.{MemoryRecord, cell_of, IsPut, HoldsCells, memory_in}
-
--- the value of a cell, where it stands at the place
-abbrev pub value_here : MemoryCell → ℕ → ℕ → Option Datum
-value_here c s o = cond (stands_at s o c) (Some c.value) None
-
-last_value : (t : Bool) (c : MemoryCell) → option_map (λ (x : MemoryCell). x.value) (cond t (Some c) None) ≡ cond t (Some c.value) None
-last_value true c = refl
-last_value false c = refl
-
-first_value : (t : Bool) (x : MemoryCell) (f g : Option MemoryCell) (r : Option Datum) → option_map (λ (x : MemoryCell). x.value) f ≡ option_or (option_map (λ (x : MemoryCell). x.value) g) r
-    → option_map (λ (x : MemoryCell). x.value) (cond t (Some x) f) ≡ option_or (option_map (λ (x : MemoryCell). x.value) (cond t (Some x) g)) r
-first_value true x f g r same = refl
-first_value false x f g r same = same
-
--- what one more cell adds to a look-up
-pub value_push : (cells : List MemoryCell) (c : MemoryCell) (s o : ℕ) → value_at (cells ++ c ∷ []) s o ≡ option_or (value_at cells s o) (value_here c s o)
-value_push [] c s o = last_value (stands_at s o c) c
-value_push (x ∷ cells) c s o = first_value (stands_at s o x) x _ _ (value_here c s o) (value_push cells c s o)
-
-stands : (a b : ℕ) → (a == a && b == b) ≡ true
-stands a b = grind (arith, nat_tests)
-
-stands_not : (a b s o : ℕ) → (s ≡ a → o ≡ b → ⊥) → (a == s && b == o) ≡ false
-stands_not a b s o other = grind (arith, nat_tests, other)
-
-or_none : {A : Type 0} (o : Option A) → option_or o None ≡ o
-or_none None = refl
-or_none (Some x) = refl
 
 -- no cell of a list stands at a place that differs from theirs
 pub none_at_place : (cells : List MemoryCell) (s o : ℕ) → ((i : ℕ) (d : MemoryCell) → i < length cells → s ≡ (get_or cells i d).segment → o ≡ (get_or cells i d).offset → ⊥) → value_at cells s o ≡ None

@@ -1,12 +1,12 @@
--- What a row holds where cells are put in between.
+-- What a row holds where cells are put in between: here each segment is as large as its room.
 use Rattle.std.proofs.Common.{inl, inr, zero, suc, ◌∷◌, map, option_map, ap₂, ◌≡◌, ℕ, ◌+◌, ◌-◌, ◌<◌, ◌≤◌, List, ◌++◌, length, sum, take, drop, set, get_or, replicate, Option, None, refl, sym, ap, subst, ◌∙◌, arith}
 use Rattle.std.proofs.Math.Seq.{take-set-lt}
 use Rattle.std.proofs.lemmas.Bool.{cases_lt, cases_eq}
 use Rattle.std.proofs.lemmas.List.{map-append, take-map, drop-map, get_or-set_same, get_or-set_other, get_or_append_left, get_or-append_right, get_or-take, get_or-drop, get_or-replicate, length-take-le, length-replicate, take-set-le, length-take}
 use Rattle.std.proofs.lemmas.List.Sums.{sum_by-set, sum_by_more_le}
-use Rattle.cairo_model.specs.Values.{Datum}
-use Rattle.seg_memory.specs.Memory.{MemoryRecord, size_of, start_of, cell_of, HoldsSame}
-use Rattle.seg_memory.proofs.Puts.{cell_inside, cell_outside}
+use Rattle.cairo_model.specs.Machine.Values.{Datum}
+use Rattle.seg_memory.specs.Working.Rows.{RowRecord, row_with, row_size, row_cell, start_of}
+use Rattle.seg_memory.proofs.SeenCells.{cell_inside, cell_outside}
 use Rattle.seg_memory.proofs.Starts.{ends_before, in_list}
 
 -- a row with k empty cells from an index on
@@ -55,11 +55,11 @@ module _ (sizes : List ℕ) (s size k at : ℕ) (there : s < length sizes) (more
 
   -- each place holds what it held
   module _ (cells row : List (Option Datum)) (full : length cells ≡ sum sizes) (changed : row ≡ take at cells ++ (replicate k None ++ drop at cells)) where
-    abbrev old : MemoryRecord
-    old = record { sizes = sizes; cells = cells }
+    abbrev old : RowRecord
+    old = row_with sizes sizes cells
 
-    abbrev new : MemoryRecord
-    new = record { sizes = set sizes s size; cells = row }
+    abbrev new : RowRecord
+    new = row_with (set sizes s size) (set sizes s size) row
 
     fits : at ≤ length cells
     fits = omega (arith, sum_by_more_le (λ x. x) sizes s 0 there)
@@ -68,16 +68,16 @@ module _ (sizes : List ℕ) (s size k at : ℕ) (there : s < length sizes) (more
     read i j same = ap (λ (n : ℕ). get_or row n None) same ∙ ap (λ (r : List (Option Datum)). get_or r j None) changed
 
     -- a place whose cell stands before the new ones
-    keeps_before : (t q : ℕ) → t ≤ s → q < get_or sizes t 0 → q < size_of new t → start_of sizes t + q < at → cell_of new t q ≡ cell_of old t q
+    keeps_before : (t q : ℕ) → t ≤ s → q < get_or sizes t 0 → q < row_size new t → start_of sizes t + q < at → row_cell new t q ≡ row_cell old t q
     keeps_before t q le within wide lt =
         cell_inside new t q wide
         ∙ (read (start_of (set sizes s size) t + q) (start_of sizes t + q) (omega (arith, start_before t le))
         ∙ (gap_before cells at k fits (start_of sizes t + q) lt ∙ sym (cell_inside old t q within)))
 
     -- a place of the segment that grows
-    keeps_here : (q : ℕ) → cell_of new s q ≡ cell_of old s q
+    keeps_here : (q : ℕ) → row_cell new s q ≡ row_cell old s q
     keeps_here q =
-        let now : size_of new s ≡ size = get_or-set_same sizes s size 0 there in
+        let now : row_size new s ≡ size = get_or-set_same sizes s size 0 there in
         elim (cases_lt q (get_or sizes s 0)) [
           | inl within ↦ keeps_before s q (omega arith) within (omega arith) (omega arith)
           | inr beyond ↦ elim (cases_lt q size) [
@@ -90,9 +90,9 @@ module _ (sizes : List ℕ) (s size k at : ℕ) (there : s < length sizes) (more
         ]
 
     -- a place of another segment
-    keeps_other : (t q : ℕ) → (t ≡ s → ⊥) → cell_of new t q ≡ cell_of old t q
+    keeps_other : (t q : ℕ) → (t ≡ s → ⊥) → row_cell new t q ≡ row_cell old t q
     keeps_other t q other =
-        let now : size_of new t ≡ get_or sizes t 0 = get_or-set_other sizes s t size 0 other in
+        let now : row_size new t ≡ get_or sizes t 0 = get_or-set_other sizes s t size 0 other in
         elim (cases_lt q (get_or sizes t 0)) [
           | inr beyond ↦ cell_outside new t q (omega arith) ∙ sym (cell_outside old t q beyond)
           | inl within ↦ elim (cases_lt t s) [
@@ -108,17 +108,8 @@ module _ (sizes : List ℕ) (s size k at : ℕ) (there : s < length sizes) (more
           ]
         ]
 
-    holds_same : (t q : ℕ) → cell_of (record { sizes = set sizes s size; cells = row }) t q ≡ cell_of (record { sizes = sizes; cells = cells }) t q
+    pub holds_same : (t q : ℕ) → row_cell (row_with (set sizes s size) (set sizes s size) row) t q ≡ row_cell (row_with sizes sizes cells) t q
     holds_same t q = elim (cases_eq t s) [
-      | inl here ↦ subst (λ (n : ℕ). cell_of new n q ≡ cell_of old n q) (sym here) (keeps_here q)
+      | inl here ↦ subst (λ (n : ℕ). row_cell new n q ≡ row_cell old n q) (sym here) (keeps_here q)
       | inr other ↦ keeps_other t q other
     ]
-
--- the same of a memory that was seen to grow
-pub grown_holds : (sizes longer : List ℕ) (cells row : List (Option Datum)) (s size k at : ℕ) → s < length sizes → length cells ≡ sum sizes
-    → get_or sizes s 0 + k ≡ size → at ≡ start_of sizes s + get_or sizes s 0
-    → longer ≡ set sizes s size → row ≡ take at cells ++ (replicate k None ++ drop at cells)
-    → HoldsSame (record { sizes = sizes; cells = cells }) (record { sizes = longer; cells = row })
-grown_holds sizes longer cells row s size k at there full more behind is_longer changed t q =
-    subst (λ (ns : List ℕ). cell_of (record { sizes = ns; cells = row }) t q ≡ cell_of (record { sizes = sizes; cells = cells }) t q) (sym is_longer)
-    (holds_same sizes s size k at there more behind cells row full changed t q)

@@ -1,6 +1,6 @@
 ghost use Rattle.std.specs.Prelude.{◌≡◌, ◌<◌, None, IfOk};
-ghost use Rattle.cairo_model.specs.Pies.{KeepsRules, memory_of};
-ghost use Rattle.cairo_model.specs.Views.{datum};
+ghost use Rattle.cairo_model.specs.Pie.Records.{KeepsRules, memory_of};
+ghost use Rattle.cairo_model.specs.Views.Machine.{datum};
 ghost use Rattle.seg_memory.specs.Memory.{IsPut, HoldsCells, cell_of, size_of, memory_in};
 
 use crate::memory::SegMemory;

@@ -2,6 +2,7 @@
 #![tactic(auto)]
 
 mod filling;
+mod listing;
 mod memory;
 mod put_fault;
 mod rows;

@@ -1,10 +1,10 @@
 //! Cells take a value once, and a segment that grows keeps its cells.
 
 ghost use Rattle.std.specs.Prelude.{◌≡◌, ◌<◌, IfOk};
-ghost use Rattle.cairo_model.specs.Pies.{KeepsRules};
-ghost use Rattle.cairo_model.specs.PieViews.{memory_cell};
-ghost use Rattle.cairo_model.specs.Values.{number as numeral};
-ghost use Rattle.cairo_model.specs.Views.{datum};
+ghost use Rattle.cairo_model.specs.Pie.Records.{KeepsRules};
+ghost use Rattle.cairo_model.specs.Views.Pie.{memory_cell};
+ghost use Rattle.cairo_model.specs.Machine.Values.{number as numeral};
+ghost use Rattle.cairo_model.specs.Views.Machine.{datum};
 
 use crate::{PutFault, SegMemory};
 use cairo_model::{Pie, PieCell, Place, Value, felt_of};
@@ -108,5 +108,6 @@ fn a_memory_has_the_cells_of_a_pie(rt: HostRuntime) -> Result<(), Fail> {
     assert_eq!(rt; memory.get(at(0, 1)), Some(number(8)));
     assert_eq!(rt; memory.get(at(0, 2)), None);
     assert_eq!(rt; memory.size(0), Some(2));
+    assert_eq!(rt; memory.cells(rt.alloc())?.as_slice(), pie.cells.as_slice());
     Ok(())
 }

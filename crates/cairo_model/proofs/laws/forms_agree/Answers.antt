@@ -1,4 +1,4 @@
-use Rattle.cairo_model.specs.Machine.{field_arithmetic, value_arithmetic}
+use Rattle.cairo_model.specs.Machine.Steps.{field_arithmetic, value_arithmetic}
 use Rattle.cairo_model.proofs.Inversion.{agree, field_exact, value_exact}
 use Rattle.cairo_model.proofs.laws.forms_agree.Goals as goal
 

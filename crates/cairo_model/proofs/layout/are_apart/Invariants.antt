@@ -1,5 +1,5 @@
 use Rattle.std.proofs.Common.{ℕ, ◌<◌, map}
-use Rattle.cairo_model.specs.Layouts.{IsApart}
+use Rattle.cairo_model.specs.Pie.Layouts.{IsApart}
 use Rattle.cairo_model.proofs.layout.are_apart.Given as goal
 
 abbrev pub invariant-loop-segment : goal.invariant-loop-segment

@@ -1,5 +1,5 @@
 use Rattle.std.proofs.Common.{ℕ, ◌<◌, map}
-use Rattle.cairo_model.specs.Layouts.{IsApartFrom}
+use Rattle.cairo_model.specs.Pie.Layouts.{IsApartFrom}
 use Rattle.cairo_model.proofs.layout.is_apart.Given as goal
 
 abbrev pub invariant-loop-other : goal.invariant-loop-other

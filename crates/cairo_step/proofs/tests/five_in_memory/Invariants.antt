@@ -1,5 +1,5 @@
 use Rattle.std.proofs.Common.{map}
-use Rattle.cairo_model.specs.FieldMemories.{AddressesRise, field_cell}
+use Rattle.cairo_model.specs.Machine.FieldMemories.{AddressesRise, field_cell}
 use Rattle.cairo_step.proofs.tests.five_in_memory.Given as goal
 
 abbrev pub invariant-loop-address : goal.invariant-loop-address

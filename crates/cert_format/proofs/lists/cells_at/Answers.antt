@@ -1,8 +1,8 @@
 use Rattle.std.proofs.Common.{◌≡◌, ◌++◌, ◌∷◌, [], map}
 use Rattle.std.proofs.lemmas.Result.{err_from_is_err_and}
 use Rattle.std.proofs.lemmas.List.{map_push}
-use Rattle.cairo_model.specs.FieldMemories.{field_cell}
-use Rattle.cert_format.specs.Reading.{items_at, cell_at}
+use Rattle.cairo_model.specs.Machine.FieldMemories.{field_cell}
+use Rattle.cert_format.specs.Working.Reading.{items_at, cell_at}
 use Rattle.cert_format.proofs.Loop.{goes_on, ends, is_done}
 use Rattle.cert_format.proofs.lists.cells_at.Goals as goal
 

@@ -1,6 +1,6 @@
 use Rattle.std.proofs.Common.{◌≡◌, ◌-◌, map}
-use Rattle.cairo_model.specs.FieldMemories.{field_cell}
-use Rattle.cert_format.specs.Reading.{items_at, cell_at}
+use Rattle.cairo_model.specs.Machine.FieldMemories.{field_cell}
+use Rattle.cert_format.specs.Working.Reading.{items_at, cell_at}
 use Rattle.cert_format.proofs.Loop.{with_front}
 use Rattle.cert_format.proofs.lists.cells_at.Given as goal
 

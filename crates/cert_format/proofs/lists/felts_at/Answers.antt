@@ -1,7 +1,7 @@
 use Rattle.std.proofs.Common.{◌≡◌, ◌++◌, ◌∷◌, [], map}
 use Rattle.std.proofs.lemmas.Result.{err_from_is_err_and}
 use Rattle.std.proofs.lemmas.List.{map_push}
-use Rattle.cert_format.specs.Reading.{items_at, felt_at}
+use Rattle.cert_format.specs.Working.Reading.{items_at, felt_at}
 use Rattle.cert_format.proofs.Loop.{goes_on, ends, is_done}
 use Rattle.cert_format.proofs.lists.felts_at.Goals as goal
 

@@ -1,5 +1,5 @@
 use Rattle.std.proofs.Common.{◌≡◌, ◌-◌, map}
-use Rattle.cert_format.specs.Reading.{items_at, felt_at}
+use Rattle.cert_format.specs.Working.Reading.{items_at, felt_at}
 use Rattle.cert_format.proofs.Loop.{with_front}
 use Rattle.cert_format.proofs.lists.felts_at.Given as goal
 

@@ -1,6 +1,6 @@
 use Rattle.std.proofs.Common.{◌≡◌, ◌++◌, ◌∷◌, []}
 use Rattle.std.proofs.lemmas.Result.{err_from_is_err_and}
-use Rattle.cert_format.specs.Reading.{items_at, mark_at}
+use Rattle.cert_format.specs.Working.Reading.{items_at, mark_at}
 use Rattle.cert_format.proofs.Loop.{goes_on, ends, is_done}
 use Rattle.cert_format.proofs.lists.marks_at.Goals as goal
 

@@ -1,5 +1,5 @@
 use Rattle.std.proofs.Common.{◌≡◌, ◌-◌}
-use Rattle.cert_format.specs.Reading.{items_at, mark_at}
+use Rattle.cert_format.specs.Working.Reading.{items_at, mark_at}
 use Rattle.cert_format.proofs.Loop.{with_front}
 use Rattle.cert_format.proofs.lists.marks_at.Given as goal
 

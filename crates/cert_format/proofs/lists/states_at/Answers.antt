@@ -1,8 +1,8 @@
 use Rattle.std.proofs.Common.{◌≡◌, ◌++◌, ◌∷◌, [], map}
 use Rattle.std.proofs.lemmas.Result.{err_from_is_err_and}
 use Rattle.std.proofs.lemmas.List.{map_push}
-use Rattle.cairo_model.specs.Views.{field_registers}
-use Rattle.cert_format.specs.Reading.{items_at, state_at}
+use Rattle.cairo_model.specs.Views.Machine.{field_registers}
+use Rattle.cert_format.specs.Working.Reading.{items_at, state_at}
 use Rattle.cert_format.proofs.Loop.{goes_on, ends, is_done}
 use Rattle.cert_format.proofs.lists.states_at.Goals as goal
 

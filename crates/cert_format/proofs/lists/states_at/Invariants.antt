@@ -1,6 +1,6 @@
 use Rattle.std.proofs.Common.{◌≡◌, ◌-◌, map}
-use Rattle.cairo_model.specs.Views.{field_registers}
-use Rattle.cert_format.specs.Reading.{items_at, state_at}
+use Rattle.cairo_model.specs.Views.Machine.{field_registers}
+use Rattle.cert_format.specs.Working.Reading.{items_at, state_at}
 use Rattle.cert_format.proofs.Loop.{with_front}
 use Rattle.cert_format.proofs.lists.states_at.Given as goal
 

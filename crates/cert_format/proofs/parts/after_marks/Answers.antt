@@ -1,5 +1,5 @@
 use Rattle.std.proofs.Common.{sym}
-use Rattle.cert_format.specs.Reading.{after_marks}
+use Rattle.cert_format.specs.Working.Reading.{after_marks}
 use Rattle.cert_format.proofs.Skipping.{marks_go_on}
 use Rattle.cert_format.proofs.parts.after_marks.Goals as goal
 

@@ -1,5 +1,5 @@
 use Rattle.std.proofs.Common.{◌≡◌, ◌-◌}
-use Rattle.cert_format.specs.Reading.{after_marks}
+use Rattle.cert_format.specs.Working.Reading.{after_marks}
 use Rattle.cert_format.proofs.parts.after_marks.Given as goal
 
 abbrev pub invariant-loop : goal.invariant-loop

@@ -1,7 +1,7 @@
 use Rattle.std.proofs.Common.{◌≡◌, false, None, length, sym, rules, arith}
-use Rattle.cert_format.specs.DraftViews.{draft}
+use Rattle.cert_format.specs.Working.DraftViews.{draft}
 use Rattle.std.specs.Prelude.{is_none}
-use Rattle.cert_format.specs.Reading.{after_all, order_fault}
+use Rattle.cert_format.specs.Working.Reading.{after_all, order_fault}
 use Rattle.cert_format.proofs.CertLaws.{draft_has_spelling, IsBytes-after}
 use Rattle.cert_format.proofs.OrderLaws.{is_ordered}
 use Rattle.cert_format.proofs.reading.certificate_in.Goals as goal

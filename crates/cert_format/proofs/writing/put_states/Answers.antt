@@ -1,6 +1,6 @@
 use Rattle.std.proofs.Common.{length}
 use Rattle.std.specs.Int.{w32, to_be_bytes}
-use Rattle.cairo_model.specs.Views.{field_registers}
+use Rattle.cairo_model.specs.Views.Machine.{field_registers}
 use Rattle.cert_format.specs.Spelling.{state_bytes}
 use Rattle.cairo_model.proofs.Appending.{one_more}
 use Rattle.cert_format.proofs.writing.put_states.Goals as goal

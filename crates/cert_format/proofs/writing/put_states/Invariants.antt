@@ -1,7 +1,7 @@
 use Rattle.std.proofs.Common.{◌≡◌, ◌++◌, length, map, take}
 use Rattle.std.specs.List.{flat_map}
 use Rattle.std.specs.Int.{w32, to_be_bytes}
-use Rattle.cairo_model.specs.Views.{field_registers}
+use Rattle.cairo_model.specs.Views.Machine.{field_registers}
 use Rattle.cert_format.specs.Spelling.{state_bytes}
 use Rattle.cert_format.proofs.writing.put_states.Given as goal
 

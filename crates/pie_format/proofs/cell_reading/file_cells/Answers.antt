@@ -1,8 +1,8 @@
 use Rattle.std.proofs.Common.{◌≡◌, ◌++◌, ◌∷◌, [], Some, None, rules, arith}
 use Rattle.std.proofs.lemmas.List.{map_push}
-use Rattle.cairo_model.specs.PieViews.{memory_cell}
-use Rattle.pie_format.specs.Reading.{cell_at, cells_at}
-use Rattle.pie_format.specs.ReadingViews.{memory_cells}
+use Rattle.cairo_model.specs.Views.Pie.{memory_cell}
+use Rattle.pie_format.specs.Working.Reading.{cell_at, cells_at}
+use Rattle.pie_format.specs.Working.ReadingViews.{memory_cells}
 use Rattle.pie_format.proofs.ReadingLoop.{goes_on, stops, is_done}
 use Rattle.pie_format.proofs.cell_reading.file_cells.Goals as goal
 

@@ -1,6 +1,6 @@
 use Rattle.std.proofs.Common.{◌≡◌, ◌-◌, ◌*◌, ◌≤◌, length, None}
-use Rattle.pie_format.specs.Reading.{cells_at}
-use Rattle.pie_format.specs.ReadingViews.{memory_cells}
+use Rattle.pie_format.specs.Working.Reading.{cells_at}
+use Rattle.pie_format.specs.Working.ReadingViews.{memory_cells}
 use Rattle.pie_format.proofs.ReadingLoop.{with_front}
 use Rattle.pie_format.proofs.cell_reading.file_cells.Given as goal
 

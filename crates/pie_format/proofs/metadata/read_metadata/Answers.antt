@@ -5,10 +5,10 @@ use Rattle.std.proofs.lemmas.Str.{IsUtf8-from_is_utf8, is_utf8-from_IsUtf8}
 use Rattle.serde_json.specs.Data.{Data}
 use Rattle.serde_json.specs.Read.{read}
 use Rattle.serde_json.specs.declared.error.Code.TheVariants.{OutOfMemory}
-use Rattle.cairo_model.specs.PieFiles.{metadata_of}
-use Rattle.cairo_model.specs.Machine.{required}
+use Rattle.cairo_model.specs.Pie.Files.{metadata_of}
+use Rattle.cairo_model.specs.Machine.Steps.{required}
 use Rattle.cairo_model.specs.declared.read_refusal.ReadRefusal.TheVariants.{BadMetadata}
-use Rattle.pie_format.specs.Reading.{metadata_in}
+use Rattle.pie_format.specs.Working.Reading.{metadata_in}
 use Rattle.pie_format.proofs.metadata.read_metadata.Goals as goal
 
 -- text that is read says what its reading says

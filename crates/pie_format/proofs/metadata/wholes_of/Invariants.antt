@@ -1,6 +1,6 @@
 use Rattle.std.proofs.Common.{◌≡◌, drop}
 use Rattle.serde_json.specs.View.{items_view}
-use Rattle.cairo_model.specs.PieFiles.{wholes_in}
+use Rattle.cairo_model.specs.Pie.Files.{wholes_in}
 use Rattle.pie_format.proofs.ReadingSizes.{wholes_after}
 use Rattle.pie_format.proofs.metadata.wholes_of.Given as goal
 

@@ -1,5 +1,5 @@
 use Rattle.std.proofs.Common.{◌≡◌, drop}
-use Rattle.pie_format.specs.Reading.{all_below}
+use Rattle.pie_format.specs.Working.Reading.{all_below}
 use Rattle.pie_format.proofs.metadata_rules.all_below.Given as goal
 
 abbrev pub invariant-loop-size : goal.invariant-loop-size

@@ -1,6 +1,6 @@
 use Rattle.std.proofs.Common.{◌≡◌, map, take}
 use Rattle.serde_json.specs.View.{view}
-use Rattle.pie_format.specs.Writing.{whole}
+use Rattle.pie_format.specs.Working.MetadataData.{whole}
 use Rattle.pie_format.proofs.metadata_writing.sizes_value.Given as goal
 
 abbrev pub invariant-loop-size : goal.invariant-loop-size

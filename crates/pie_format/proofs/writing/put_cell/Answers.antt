@@ -1,7 +1,7 @@
 use Rattle.std.proofs.Common.{◌≡◌, ℕ, List, ◌++◌, ap, ◌∙◌}
 use Rattle.std.specs.Int.{w16, w32, w64, to_be_bytes}
-use Rattle.cairo_model.specs.PieFiles.{tag_of, payload_of}
-use Rattle.cairo_model.specs.Views.{datum}
+use Rattle.cairo_model.specs.Pie.Files.{tag_of, payload_of}
+use Rattle.cairo_model.specs.Views.Machine.{datum}
 use Rattle.pie_format.proofs.Appending.{four_parts}
 use Rattle.pie_format.proofs.writing.put_cell.Goals as goal
 

@@ -1,7 +1,7 @@
 use Rattle.std.proofs.Common.{length}
 use Rattle.std.specs.Int.{w32, to_be_bytes}
-use Rattle.cairo_model.specs.PieFiles.{cell_bytes}
-use Rattle.cairo_model.specs.PieViews.{memory_cell}
+use Rattle.cairo_model.specs.Pie.Files.{cell_bytes}
+use Rattle.cairo_model.specs.Views.Pie.{memory_cell}
 use Rattle.cairo_model.proofs.Appending.{one_more}
 use Rattle.pie_format.proofs.writing.put_cells.Goals as goal
 

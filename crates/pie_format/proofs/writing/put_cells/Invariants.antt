@@ -1,8 +1,8 @@
 use Rattle.std.proofs.Common.{◌≡◌, ◌++◌, length, map, take}
 use Rattle.std.specs.List.{flat_map}
 use Rattle.std.specs.Int.{w32, to_be_bytes}
-use Rattle.cairo_model.specs.PieFiles.{cell_bytes}
-use Rattle.cairo_model.specs.PieViews.{memory_cell}
+use Rattle.cairo_model.specs.Pie.Files.{cell_bytes}
+use Rattle.cairo_model.specs.Views.Pie.{memory_cell}
 use Rattle.pie_format.proofs.writing.put_cells.Given as goal
 
 abbrev pub invariant-loop-cell : goal.invariant-loop-cell

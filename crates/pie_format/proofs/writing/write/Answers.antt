@@ -1,8 +1,8 @@
 use Rattle.std.proofs.Common.{rules, ◌≡◌, ◌≤◌, List, length, map, ap, arith}
 use Rattle.std.proofs.lemmas.List.{length-map}
-use Rattle.cairo_model.specs.Pies.{PieRecord}
+use Rattle.cairo_model.specs.Pie.Records.{PieRecord}
 use Rattle.cairo_model.specs.declared.pie.PieCell.{PieCell}
-use Rattle.cairo_model.specs.PieViews.{memory_cell}
+use Rattle.cairo_model.specs.Views.Pie.{memory_cell}
 use Rattle.pie_format.specs.Writing.{file_of}
 use Rattle.cairo_model.proofs.CellCount.{few_cells}
 use Rattle.pie_format.proofs.WritingLaws.{is_file}

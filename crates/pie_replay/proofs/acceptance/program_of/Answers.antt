@@ -1,7 +1,7 @@
 use Rattle.std.proofs.Common.{rules, ◌≡◌, ◌≤◌, ◌<◌, refl, subst}
-use Rattle.cairo_model.specs.Pies.{segment_size}
-use Rattle.cairo_model.specs.ReplayRefusals.{IsFirstReplayCause, bad_main}
-use Rattle.cairo_model.specs.ReplayViews.{replay_cause}
+use Rattle.cairo_model.specs.Pie.Records.{segment_size}
+use Rattle.cairo_model.specs.Refusals.ReplayRefusals.{IsFirstReplayCause, bad_main}
+use Rattle.cairo_model.specs.Views.ReplayRefusals.{replay_cause}
 use Rattle.cairo_model.specs.declared.replay_refusal.ReplayRefusal.{ReplayRefusal}
 use Rattle.cairo_model.specs.declared.replay_refusal.ReplayRefusal.TheVariants.{BadMain}
 use Rattle.pie_replay.proofs.FullSegments.{has_each}

@@ -1,5 +1,5 @@
 use Rattle.std.proofs.Common.{ℕ, ◌<◌}
-use Rattle.cairo_model.specs.ReplayRefusals.{HasRangeCell}
+use Rattle.cairo_model.specs.Refusals.ReplayRefusals.{HasRangeCell}
 use Rattle.pie_replay.proofs.builtins.bad_range_cell.Given as goal
 
 abbrev pub invariant-loop-offset : goal.invariant-loop-offset

@@ -1,6 +1,6 @@
 use Rattle.std.proofs.Common.{ℕ, ◌≡◌, ◌+◌, ◌<◌, Some, length, slice_index}
-use Rattle.cairo_model.specs.Pies.{value_at}
-use Rattle.cairo_model.specs.Values.{number}
+use Rattle.cairo_model.specs.Pie.Records.{value_at}
+use Rattle.cairo_model.specs.Machine.Values.{number}
 use Rattle.pie_replay.proofs.builtins.twenty_numbers.Given as goal
 
 abbrev pub invariant-loop-k : goal.invariant-loop-k

@@ -1,7 +1,7 @@
 use Rattle.std.proofs.Common.{◌∙◌, refl, sym}
 use Rattle.std.proofs.lemmas.Bool.{iff_false}
-use Rattle.cairo_model.specs.ReplayRefusals.{wrong_frame, stop_pointer}
-use Rattle.cairo_model.specs.Views.{registers}
+use Rattle.cairo_model.specs.Refusals.ReplayRefusals.{wrong_frame, stop_pointer}
+use Rattle.cairo_model.specs.Views.Machine.{registers}
 use Rattle.pie_replay.proofs.Stages.{is_first, passes_on}
 use Rattle.pie_replay.proofs.ending.not_home.Goals as goal
 

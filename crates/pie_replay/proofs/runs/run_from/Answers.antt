@@ -1,6 +1,6 @@
 use Rattle.std.proofs.Common.{length-append, arith}
 use Rattle.std.proofs.lemmas.List.{map-append}
-use Rattle.cairo_model.specs.Views.{registers}
+use Rattle.cairo_model.specs.Views.Machine.{registers}
 use Rattle.cairo_model.proofs.RunLaws.{runs_on}
 use Rattle.pie_replay.proofs.runs.run_from.Goals as goal
 

@@ -1,7 +1,7 @@
 use Rattle.std.proofs.Common.{◌≡◌, ◌+◌, map, length}
-use Rattle.cairo_model.specs.Machine.{value_arithmetic, RunsTo}
+use Rattle.cairo_model.specs.Machine.Steps.{value_arithmetic, RunsTo}
 use Rattle.seg_memory.specs.Memory.{memory_in}
-use Rattle.cairo_model.specs.Views.{registers}
+use Rattle.cairo_model.specs.Views.Machine.{registers}
 use Rattle.pie_replay.proofs.runs.run_from.Given as goal
 
 abbrev pub invariant-loop-number : goal.invariant-loop-number

@@ -1,6 +1,6 @@
 use Rattle.std.proofs.Common.{rules, ◌≡◌, ◌<◌, subst}
-use Rattle.cairo_model.specs.Pies.{segment_size}
-use Rattle.cairo_model.specs.ReplayRefusals.{IsFirstGap}
+use Rattle.cairo_model.specs.Pie.Records.{segment_size}
+use Rattle.cairo_model.specs.Refusals.ReplayRefusals.{IsFirstGap}
 use Rattle.pie_replay.proofs.FullSegments.{first_gap}
 use Rattle.pie_replay.proofs.segments.numbers_in.Goals as goal
 

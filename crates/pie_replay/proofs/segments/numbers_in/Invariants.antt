@@ -1,5 +1,5 @@
 use Rattle.std.proofs.Common.{map}
-use Rattle.cairo_model.specs.Acceptance.{HoldsNumbers}
+use Rattle.cairo_model.specs.Pie.Acceptance.{HoldsNumbers}
 use Rattle.pie_replay.proofs.segments.numbers_in.Given as goal
 
 abbrev pub invariant-loop-offset : goal.invariant-loop-offset

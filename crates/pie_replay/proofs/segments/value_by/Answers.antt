@@ -1,6 +1,6 @@
 use Rattle.std.proofs.Common.{◌∙◌, Option, ap}
-use Rattle.cairo_model.specs.Values.{Datum}
-use Rattle.cairo_model.specs.Views.{datum}
+use Rattle.cairo_model.specs.Machine.Values.{Datum}
+use Rattle.cairo_model.specs.Views.Machine.{datum}
 use Rattle.pie_replay.proofs.segments.value_by.Goals as goal
 
 pub returns : goal.returns

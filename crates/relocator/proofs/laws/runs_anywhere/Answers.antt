@@ -1,8 +1,8 @@
 use Rattle.std.proofs.Common.{ℕ, subst, sym}
-use Rattle.cairo_model.specs.Pies.{memory_of}
-use Rattle.relocator.specs.Relocations.{AllValuesIn}
+use Rattle.cairo_model.specs.Pie.Records.{memory_of}
+use Rattle.cairo_model.specs.Pie.Staying.{AllValuesIn}
 use Rattle.relocator.proofs.Homomorphism.{run_to}
-use Rattle.relocator.proofs.PieMemories.{values_in}
+use Rattle.cairo_model.proofs.PieMemories.{values_in}
 use Rattle.relocator.proofs.laws.runs_anywhere.Goals as goal
 
 pub returns : goal.returns

@@ -1,8 +1,8 @@
 use Rattle.std.proofs.Common.{◌≡◌, map, take}
-use Rattle.cairo_model.specs.FieldMemories.{field_cell}
-use Rattle.cairo_model.specs.Layouts.{relocated_cell}
-use Rattle.cairo_model.specs.PieViews.{memory_cell}
-use Rattle.relocator.specs.Lists.{numbers}
+use Rattle.cairo_model.specs.Machine.FieldMemories.{field_cell}
+use Rattle.cairo_model.specs.Pie.Layouts.{relocated_cell}
+use Rattle.cairo_model.specs.Views.Pie.{memory_cell}
+use Rattle.relocator.specs.Working.Lists.{numbers}
 use Rattle.relocator.proofs.lists.relocate_cells.Given as goal
 
 abbrev pub invariant-loop-cell : goal.invariant-loop-cell

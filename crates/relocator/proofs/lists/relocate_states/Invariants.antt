@@ -1,7 +1,7 @@
 use Rattle.std.proofs.Common.{◌≡◌, map, take}
-use Rattle.cairo_model.specs.Views.{registers, field_registers}
-use Rattle.cairo_model.specs.Layouts.{relocated_state}
-use Rattle.relocator.specs.Lists.{numbers}
+use Rattle.cairo_model.specs.Views.Machine.{registers, field_registers}
+use Rattle.cairo_model.specs.Pie.Layouts.{relocated_state}
+use Rattle.relocator.specs.Working.Lists.{numbers}
 use Rattle.relocator.proofs.lists.relocate_states.Given as goal
 
 abbrev pub invariant-loop-state : goal.invariant-loop-state

@@ -1,5 +1,5 @@
 use Rattle.std.proofs.Common.{◌≡◌, ◌+◌, ◌≤◌, ◌++◌, drop, sum, length, map}
-use Rattle.cairo_model.specs.Layouts.{bases_from, lone_bases}
+use Rattle.cairo_model.specs.Pie.Layouts.{bases_from, lone_bases}
 use Rattle.relocator.proofs.lone_layout.bases_alone.Given as goal
 
 abbrev pub invariant-loop-size : goal.invariant-loop-size

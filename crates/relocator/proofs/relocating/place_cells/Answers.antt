@@ -1,11 +1,11 @@
 use Rattle.std.proofs.Common.{◌≡◌, ◌==◌, ℕ, List, All, map, subst, sym, ap, ◌∙◌}
 use Rattle.std.specs.List.{IsDistinct}
 use Rattle.std.specs.List.Sorted.{IsPermutation}
-use Rattle.cairo_model.specs.Pies.{PieRecord, IsCellOf}
-use Rattle.cairo_model.specs.PieViews.{memory_cell}
-use Rattle.cairo_model.specs.FieldMemories.{FieldCell, field_cell, addresses}
-use Rattle.cairo_model.specs.Layouts.{relocated_cell}
-use Rattle.relocator.specs.Lists.{numbers, IsCellIn}
+use Rattle.cairo_model.specs.Pie.Records.{PieRecord, IsCellOf}
+use Rattle.cairo_model.specs.Views.Pie.{memory_cell}
+use Rattle.cairo_model.specs.Machine.FieldMemories.{FieldCell, field_cell, addresses}
+use Rattle.cairo_model.specs.Pie.Layouts.{relocated_cell}
+use Rattle.relocator.specs.Working.Lists.{numbers, IsCellIn}
 use Rattle.relocator.proofs.Apart.{distinct_addresses}
 use Rattle.relocator.proofs.ListsIn.{cells_in, same_count}
 use Rattle.relocator.proofs.ListFacts.{if_ok_both}

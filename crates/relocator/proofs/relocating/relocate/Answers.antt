@@ -1,11 +1,12 @@
 use Rattle.std.proofs.Common.{◌≡◌, ℕ, List, Option, map, rules, ap, ap₂, ◌∙◌}
-use Rattle.cairo_model.specs.Values.{Datum}
-use Rattle.cairo_model.specs.Machine.{Registers}
-use Rattle.cairo_model.specs.FieldMemories.{field_cell, cell_at}
-use Rattle.cairo_model.specs.Layouts.{relocated_state}
-use Rattle.cairo_model.specs.Views.{field_registers}
-use Rattle.relocator.specs.Lists.{numbers}
-use Rattle.relocator.specs.Placing.{ArePlaced, HasCells, RunsAsPlaced}
+use Rattle.cairo_model.specs.Machine.Values.{Datum}
+use Rattle.cairo_model.specs.Machine.Steps.{Registers}
+use Rattle.cairo_model.specs.Machine.FieldMemories.{field_cell, cell_at}
+use Rattle.cairo_model.specs.Pie.Layouts.{relocated_state}
+use Rattle.cairo_model.specs.Views.Machine.{field_registers}
+use Rattle.relocator.specs.Working.Lists.{numbers}
+use Rattle.cairo_model.specs.Pie.Relocation.{HasCells}
+use Rattle.relocator.specs.Placing.{ArePlaced, RunsAsPlaced}
 use Rattle.relocator.proofs.RunsPlaced.{starts_inside, runs_as_placed}
 use Rattle.relocator.proofs.relocating.relocate.Goals as goal
 use Rattle.relocator.proofs.relocating.relocate.Goals.{In_ok-states}

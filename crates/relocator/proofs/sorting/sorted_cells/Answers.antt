@@ -1,6 +1,6 @@
 use Rattle.std.proofs.Common.{rules}
 use Rattle.std.proofs.lemmas.List.Sorted.{IsNonDecreasingBy-from_sort_by_key, IsPermutation-map}
-use Rattle.cairo_model.specs.FieldMemories.{field_cell}
+use Rattle.cairo_model.specs.Machine.FieldMemories.{field_cell}
 use Rattle.relocator.proofs.PlacedCells.{address, sorted_rise}
 use Rattle.relocator.proofs.sorting.sorted_cells.Goals as goal
 

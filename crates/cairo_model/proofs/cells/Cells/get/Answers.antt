@@ -1,6 +1,6 @@
 use Rattle.std.proofs.Common.{◌≡◌, ℕ, List, Option, Some, None, option_map, map, sym, subst, ap, ◌∙◌}
-use Rattle.cairo_model.specs.FieldMemories.{FieldCell, field_cell, addresses, cell_at}
-use Rattle.cairo_model.specs.Keys.{IsKeyAt, IsGapFor}
+use Rattle.cairo_model.specs.Machine.FieldMemories.{FieldCell, field_cell, addresses, cell_at}
+use Rattle.cairo_model.specs.Working.Keys.{IsKeyAt, IsGapFor}
 use Rattle.cairo_model.proofs.CellLemmas.{address_tells}
 use Rattle.cairo_model.proofs.Searching.{found_view, absent_view}
 use Rattle.cairo_model.proofs.cells.Cells.get.Goals as goal

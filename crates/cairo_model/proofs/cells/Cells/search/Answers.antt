@@ -1,13 +1,17 @@
-use Rattle.std.proofs.Common.{rules}
-use Rattle.std.proofs.lemmas.List.Sorted.{answers_always}
-use Rattle.cairo_model.specs.FieldMemories.{FieldCell, field_cell}
-use Rattle.cairo_model.proofs.Searching.{searched_view}
+use Rattle.cairo_model.proofs.Narrowing.{cut_rises, cut_found, cut_absent}
 use Rattle.cairo_model.proofs.cells.Cells.search.Goals as goal
 
--- the closure gives a cell's address, and the slice is the cells
-pub returns : goal.returns
-returns c =
-    let facts = c.binary_search_by_key.ensures in
-    let by_key = facts.position (λ cell. cell.0) (answers_always _ _ _ (λ f a r g called. search rules)) in
-    rw (← c.self.view_is, ← c.deref.ensures.value)
-    (searched_view field_cell (λ (c : FieldCell). c.0) c.deref.result.now (rw c.deref.ensures.value c.self.invariant) c.args.address.number c.binary_search_by_key.result facts.bound by_key)
+-- the cells of the slice are a part of all
+pub halved-requires : goal.halved-requires
+halved-requires c =
+    rw c.deref.ensures.value (cut_rises c.self.inside.list.items c.self.invariant c.args.self.now c.self.view_is c.first_place-from.result c.places_to-to.result c.first_place-from.ensures.inside c.places_to-to.ensures.inside)
+
+pub returns-in-Ok-clause-found : goal.returns-in-Ok-clause-found
+returns-in-Ok-clause-found c =
+    cut_found c.self.inside.list.items c.self.invariant c.args.self.now c.self.view_is c.first_place-from.result c.places_to-to.result c.first_place-from.ensures.inside c.places_to-to.ensures.inside c.args.address.number c.in-Ok.at
+    (rw (← c.deref.ensures.value) c.in-Ok.ensures.found)
+
+pub returns-in-Err-clause-absent : goal.returns-in-Err-clause-absent
+returns-in-Err-clause-absent c =
+    cut_absent c.self.inside.list.items c.self.invariant c.args.self.now c.self.view_is c.first_place-from.result c.places_to-to.result c.first_place-from.ensures.inside c.places_to-to.ensures.inside c.args.address.number c.in-Err.at c.first_place-from.ensures.below c.places_to-to.ensures.above
+    (rw (← c.deref.ensures.value) c.in-Err.ensures.absent)

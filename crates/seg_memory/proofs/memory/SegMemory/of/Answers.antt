@@ -1,5 +1,5 @@
 use Rattle.std.proofs.Common.{◌<◌, List, get_or, ℕ, sym, subst, ◌∙◌}
-use Rattle.cairo_model.specs.PieViews.{memory_cell}
+use Rattle.cairo_model.specs.Views.Pie.{memory_cell}
 use Rattle.seg_memory.proofs.Cells.{free_at, cell_at, holds_next, seen_at}
 use Rattle.seg_memory.proofs.memory.SegMemory.of.Goals as goal
 

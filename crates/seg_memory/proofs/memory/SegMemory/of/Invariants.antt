@@ -1,5 +1,5 @@
 use Rattle.std.proofs.Common.{◌≡◌, map, take}
-use Rattle.cairo_model.specs.PieViews.{memory_cell}
+use Rattle.cairo_model.specs.Views.Pie.{memory_cell}
 use Rattle.seg_memory.specs.Memory.{HoldsCells}
 use Rattle.seg_memory.proofs.memory.SegMemory.of.Given as goal
 

@@ -1,0 +1,10 @@
+pub mod Records
+pub mod Files
+pub mod Layouts
+pub mod BuiltinCells
+pub mod Acceptance
+pub mod Facts
+pub mod FactOrder
+pub mod Shapes
+pub mod Relocation
+pub mod Staying

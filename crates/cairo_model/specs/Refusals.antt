@@ -1,0 +1,4 @@
+pub mod FirstFailing
+pub mod ReadRefusals
+pub mod ReplayRefusals
+pub mod Verdicts

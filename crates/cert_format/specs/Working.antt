@@ -1,0 +1,3 @@
+pub mod Reading
+pub mod DraftViews
+pub mod Ordering

@@ -1,5 +1,0 @@
-use Rattle.pie_format.proofs.Causes.{one_first_cause}
-use Rattle.pie_format.proofs.laws.one_first_cause.Goals as goal
-
-pub returns : goal.returns
-returns c = one_first_cause

@@ -1,0 +1,3 @@
+pub mod MetadataData
+pub mod Reading
+pub mod ReadingViews
