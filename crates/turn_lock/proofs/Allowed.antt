@@ -13,7 +13,7 @@ use Rattle.turn_lock.specs.declared.view.View.{View}
 use Rattle.turn_lock.specs.Journals.{IsAtMostOne}
 use Rattle.turn_lock.specs.Views.{IsAtRest, waiting, called, raised}
 use Rattle.turn_lock.specs.Locks.{At, Knows}
-use Rattle.turn_lock.specs.Steps.{drawn, taken, raises}
+use Rattle.turn_lock.specs.Working.Steps.{drawn, taken, raises}
 use Rattle.turn_lock.specs.Tables.{Hold, Standing, Took, drew, looked, passed}
 use Rattle.turn_lock.proofs.Numbers.{ticket_pass}
 use Rattle.turn_lock.proofs.Logs.{own_entries}

@@ -6,7 +6,7 @@ use Rattle.std.proofs.lemmas.Bool.Decides.{nat_tests}
 use Rattle.turn_lock.specs.declared.view.View.{View}
 use Rattle.turn_lock.specs.Journals.{entries_by}
 use Rattle.turn_lock.specs.Locks.{Lock, StandsFor, AtHome, Away, Rule}
-use Rattle.turn_lock.specs.Steps.{Close}
+use Rattle.turn_lock.specs.Working.Steps.{Close}
 use Rattle.turn_lock.proofs.Seats.{one_at}
 use Rattle.turn_lock.proofs.Numbers.{resting_pass, ticket_pass, stands_for_own}
 use Rattle.turn_lock.proofs.Slots.{resting_not_called}

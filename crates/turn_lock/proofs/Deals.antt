@@ -5,7 +5,7 @@ use Rattle.turn_lock.specs.declared.view.Stage.TheVariants.{Resting, Called}
 use Rattle.turn_lock.specs.declared.view.View.{View}
 use Rattle.turn_lock.specs.Views.{IsPass, HasTicket, dealt, next_pass}
 use Rattle.turn_lock.specs.Locks.{Lock, At, Everyone, StandsFor, HasWidth, Deals, Numbered, Knows, Saw, Rule}
-use Rattle.turn_lock.specs.Steps.{Deal, with_view, with_new}
+use Rattle.turn_lock.specs.Working.Steps.{Deal, with_view, with_new}
 use Rattle.turn_lock.proofs.Seats.{there, everyone_set, everyone_new, someone_set, someone_new, apart_less, apart_new}
 use Rattle.turn_lock.proofs.Numbers.{resting_pass, contains_one}
 use Rattle.turn_lock.proofs.Lines.{line_same, line_new}

@@ -12,9 +12,10 @@ use Rattle.turn_lock.specs.declared.view.Stage.TheVariants.{Resting}
 use Rattle.turn_lock.specs.declared.view.Part.{Part}
 use Rattle.turn_lock.specs.declared.view.View.{View}
 use Rattle.turn_lock.specs.Journals.{entries_by, IsPrefix}
-use Rattle.turn_lock.specs.Views.{IsAtRest, gathered, own_part, parts_of, parts_or, numbers_of}
+use Rattle.turn_lock.specs.Views.{IsAtRest, gathered, own_part, all_parts, parts_or, numbers_of}
 use Rattle.turn_lock.specs.Locks.{Knows}
-use Rattle.turn_lock.specs.Passes.{Token, part_of, IsNumberOf}
+use Rattle.turn_lock.specs.Passes.{Token, IsNumberOf}
+use Rattle.turn_lock.specs.Working.Parts.{part_of}
 use Rattle.turn_lock.specs.Tables.{Hold, Standing}
 use Rattle.turn_lock.proofs.Allowed.{at_lock}
 use Rattle.turn_lock.proofs.Numbers.{resting_pass}
@@ -28,7 +29,7 @@ pub record Gathering {S N : Type 0} (lock : TableId) (all left : List (Token N))
   pub free : seat.me.1 ≡ []
   pub rests : seat.me.0.stage ≡ Resting
   pub quiet : seat.me.0.heard ≡ []
-  pub parts : map part_of all ≡ map part_of left ++ parts_of seat.me.0
+  pub parts : map part_of all ≡ map part_of left ++ all_parts seat.me.0
   pub rest_own : All (λ p. p.lock ≡ lock) left
 
 -- a fact of each element of a list that was mapped
@@ -43,7 +44,7 @@ module _ {N : Type 0} where
   numbers_of_tokens [] = refl
   numbers_of_tokens (p ∷ ps) = ap (λ (ns : List ℕ). p.number ∷ ns) (numbers_of_tokens ps)
 
-  numbers_of_all : (v : View N) (ps : List (Token N)) → parts_of v ≡ map part_of ps → map (λ (p : Token N). p.number) ps ≡ numbers_of v
+  numbers_of_all : (v : View N) (ps : List (Token N)) → all_parts v ≡ map part_of ps → map (λ (p : Token N). p.number) ps ≡ numbers_of v
   numbers_of_all v ps is = sym (numbers_of_tokens ps) ∙ ap (map (λ (q : Part N). q.number)) (sym is) ∙ numbers_of_parts v.joined (own_part v)
 
 module _ {S N : Type 0} where
@@ -66,14 +67,14 @@ module _ {S N : Type 0} where
       → seat'.table_id ≡ seat.table_id → seat'.me ≡ (gathered seat.me.0 w, seat.me.1) → Gathering lock all left seat'
   gather_next lock all now left p seat seat' w r is part same becomes =
       let owns = All-pop (λ q. q.lock ≡ lock) now left (Some p) is r.rest_own in
-      let before = parts_of seat.me.0 in
+      let before = all_parts seat.me.0 in
       record {
         own = same ∙ r.own;
         free = ap (λ (m : Hold S N). m.1) becomes ∙ r.free;
         rests = ap (λ (m : Hold S N). m.0.stage) becomes ∙ r.rests;
         quiet = ap (λ (m : Hold S N). m.0.heard) becomes ∙ r.quiet;
         parts = r.parts ∙ ap (λ (ps : List (Part N)). ps ++ before) (ap (map part_of) is ∙ map-append part_of left (p ∷ [])) ∙ append_assoc (map part_of left) (part_of p ∷ []) before
-            ∙ ap (λ (q : Part N). map part_of left ++ (q ∷ before)) (sym part) ∙ ap (λ (m : Hold S N). map part_of left ++ parts_of m.0) (sym becomes);
+            ∙ ap (λ (q : Part N). map part_of left ++ (q ∷ before)) (sym part) ∙ ap (λ (m : Hold S N). map part_of left ++ all_parts m.0) (sym becomes);
         rest_own = owns.0;
       }
 
@@ -85,7 +86,7 @@ module _ {S N : Type 0} (journal : S → List (ℕ × N)) (turns width : S → �
     pub mine : All (λ p. entries_by p.number (journal y) ≡ p.mine) ps
     pub others : All (λ e. IsNumberOf ps e.0) (journal y)
 
-  pub ends : (passes id : ℕ) (ps : List (Token N)) (v : View N) (s : State (Option S) (View N)) → Standing journal turns width passes s → get_elem? s.views id ≡ some v → v.stage ≡ Resting → parts_of v ≡ map part_of ps
+  pub ends : (passes id : ℕ) (ps : List (Token N)) (v : View N) (s : State (Option S) (View N)) → Standing journal turns width passes s → get_elem? s.views id ≡ some v → v.stage ≡ Resting → all_parts v ≡ map part_of ps
       → ((n : ℕ) → n < passes → IsNumberOf ps n) → (y : S) × (get_elem? s.homes 0 ≡ some (some (Some y))) × Ends ps y
   ends passes id ps v s r at rests is every =
       let l = r.lock in
@@ -94,7 +95,7 @@ module _ {S N : Type 0} (journal : S → List (ℕ × N)) (turns width : S → �
       let home = close_finds journal turns width passes id l r.keeps record { view = v; at = at_l; rests = rests; all = λ n small. subst (λ (ns : List ℕ). Contains ns n) numbers (every n small) } in
       let known : Knows (journal home.value) v = subst (λ (xs : List (ℕ × N)). Knows xs v) (sym home.journal_is) (r.keeps.seen.knows id v at_l) in
       let pass = resting_pass v.stage rests in
-      let parts : (i : ℕ) (q : Part N) → get_elem? (map part_of ps) i ≡ some q → get_elem? (parts_of v) i ≡ some q = λ i q found. ap (λ (qs : List (Part N)). get_elem? qs i) is ∙ found in (
+      let parts : (i : ℕ) (q : Part N) → get_elem? (map part_of ps) i ≡ some q → get_elem? (all_parts v) i ≡ some q = λ i q found. ap (λ (qs : List (Part N)). get_elem? qs i) is ∙ found in (
         home.value,
         ap (λ (hs : List (Maybe (Option S))). get_elem? hs 0) r.homes ∙ ap some home.slot,
         record {
@@ -106,20 +107,20 @@ module _ {S N : Type 0} (journal : S → List (ℕ × N)) (turns width : S → �
       )
 
   -- the slot has a value at the end
-  found_at_end : (passes id : ℕ) (ps : List (Token N)) (v : View N) (ws : List ℕ) (xs : List (Option S)) (slot : Option S) → Final (SeenBy (Standing journal turns width passes) id v) ws xs → v.stage ≡ Resting → parts_of v ≡ map part_of ps
+  found_at_end : (passes id : ℕ) (ps : List (Token N)) (v : View N) (ws : List ℕ) (xs : List (Option S)) (slot : Option S) → Final (SeenBy (Standing journal turns width passes) id v) ws xs → v.stage ≡ Resting → all_parts v ≡ map part_of ps
       → ((n : ℕ) → n < passes → IsNumberOf ps n) → get_elem? xs 0 ≡ some slot → (y : S) × (slot ≡ Some y) × Ends ps y
   found_at_end passes id ps v ws xs slot last rests is every found =
       let e = ends passes id ps v last.0 last.1.0 last.1.1 rests is every in
       (e.0, some-injective slot (Some e.0) (sym found ∙ last.4 0 (Some e.0) e.1), e.2)
 
-  pub no_other : (passes id : ℕ) (ps : List (Token N)) (v : View N) (ws : List ℕ) (xs : List (Option S)) (slot : Option S) → Final (SeenBy (Standing journal turns width passes) id v) ws xs → v.stage ≡ Resting → parts_of v ≡ map part_of ps
+  pub no_other : (passes id : ℕ) (ps : List (Token N)) (v : View N) (ws : List ℕ) (xs : List (Option S)) (slot : Option S) → Final (SeenBy (Standing journal turns width passes) id v) ws xs → v.stage ≡ Resting → all_parts v ≡ map part_of ps
       → ((n : ℕ) → n < passes → IsNumberOf ps n) → get_elem? xs 0 ≡ some slot → slot ≡ None → ⊥
   no_other passes id ps v ws xs slot last rests is every found none = let e = found_at_end passes id ps v ws xs slot last rests is every found in differ e.0 slot e.1 none
     where
       differ : (x : S) (o : Option S) → o ≡ Some x → o ≡ None → ⊥
       differ x o a b = grind arith
 
-  pub closed : (passes id : ℕ) (ps : List (Token N)) (v : View N) (ws : List ℕ) (xs : List (Option S)) (slot : Option S) (value : S) → Final (SeenBy (Standing journal turns width passes) id v) ws xs → v.stage ≡ Resting → parts_of v ≡ map part_of ps
+  pub closed : (passes id : ℕ) (ps : List (Token N)) (v : View N) (ws : List ℕ) (xs : List (Option S)) (slot : Option S) (value : S) → Final (SeenBy (Standing journal turns width passes) id v) ws xs → v.stage ≡ Resting → all_parts v ≡ map part_of ps
       → ((n : ℕ) → n < passes → IsNumberOf ps n) → get_elem? xs 0 ≡ some slot → slot ≡ Some value → Ends ps value
   closed passes id ps v ws xs slot value last rests is every found has = let e = found_at_end passes id ps v ws xs slot last rests is every found in subst (Ends ps) (same_value e.0 value slot e.1 has) e.2
     where

@@ -8,9 +8,9 @@ use Rattle.turn_lock.specs.declared.view.Stage.TheVariants.{Called, Spent}
 use Rattle.turn_lock.specs.declared.view.Part.{Part}
 use Rattle.turn_lock.specs.declared.view.View.{View}
 use Rattle.turn_lock.specs.Journals.{entries_by, IsPrefix}
-use Rattle.turn_lock.specs.Views.{IsPass, HasTicket, spent, gathered, parts_of, parts_or, numbers_or, widths_or, own_part}
+use Rattle.turn_lock.specs.Views.{IsPass, HasTicket, spent, gathered, all_parts, parts_or, numbers_or, widths_or, own_part}
 use Rattle.turn_lock.specs.Locks.{Lock, At, StandsFor, HasWidth, Deals, Numbered, Knows, Saw, Rule}
-use Rattle.turn_lock.specs.Steps.{Gather, with_view}
+use Rattle.turn_lock.specs.Working.Steps.{Gather, with_view}
 use Rattle.turn_lock.proofs.Seats.{everyone_joined, someone_joined, apart_joined}
 use Rattle.turn_lock.proofs.Numbers.{resting_pass, stands_for_own}
 use Rattle.turn_lock.proofs.Lines.{line_same}
@@ -53,8 +53,8 @@ module _ {N : Type 0} where
   stands_for_both : (v w : View N) (n : ℕ) → IsPass v.stage → IsPass w.stage → w.joined ≡ [] → StandsFor (gathered v w) n → StandsFor v n ⊎ StandsFor w n
   stands_for_both v w n pass pass_too alone s = ⊎_elim
       (λ (is : w.number ≡ n). inr (subst (StandsFor w) is (stands_for_own w pass_too alone)))
-      (λ (c : Contains (map (λ (q : Part N). q.number) (parts_of v)) n). inl (pass, subst (λ (ns : List ℕ). Contains ns n) (numbers_of_parts v.joined (own_part v)) c))
-      (contains_cases w.number (map (λ (q : Part N). q.number) (parts_of v)) n s.1)
+      (λ (c : Contains (map (λ (q : Part N). q.number) (all_parts v)) n). inl (pass, subst (λ (ns : List ℕ). Contains ns n) (numbers_of_parts v.joined (own_part v)) c))
+      (contains_cases w.number (map (λ (q : Part N). q.number) (all_parts v)) n s.1)
 
   numbered_gather : (passes size most : ℕ) (log : List (ℕ × N)) (views : List (View N)) (me other : ℕ) (v w : View N) → At views me v → At views other w → other ≢ me → IsPass v.stage → IsPass w.stage → w.joined ≡ []
       → Numbered passes size most log views → Numbered passes size most log (set (set views other spent) me (gathered v w))
@@ -71,8 +71,8 @@ module _ {N : Type 0} where
         one_width = everyone_joined (λ u. IsPass u.stage → u.width ≡ size) views me other both spent (λ _. r.one_width me v at pass) (λ none. absurd none) r.one_width;
         joined_width = everyone_joined (λ u. (n : ℕ) → HasWidth u n → n ≡ size) views me other both spent (λ n s. ⊎_elim
             (λ (is : w.width ≡ n). sym is ∙ r.one_width other w at_other pass_too)
-            (λ (c : Contains (map (λ (q : Part N). q.width) (parts_of v)) n). r.joined_width me v at n (pass, subst (λ (ns : List ℕ). Contains ns n) (widths_of_parts v.joined (own_part v)) c))
-            (contains_cases w.width (map (λ (q : Part N). q.width) (parts_of v)) n s.1)) (λ n s. absurd s.0) r.joined_width;
+            (λ (c : Contains (map (λ (q : Part N). q.width) (all_parts v)) n). r.joined_width me v at n (pass, subst (λ (ns : List ℕ). Contains ns n) (widths_of_parts v.joined (own_part v)) c))
+            (contains_cases w.width (map (λ (q : Part N). q.width) (all_parts v)) n s.1)) (λ n s. absurd s.0) r.joined_width;
         made = everyone_joined (λ u. Deals u tt → u.made ≡ most) views me other both spent (λ d. larger_dealt v.made w.made most of_v of_w d.1) (λ d. absurd d.0) r.made;
         dealer = apart_joined Deals views me other v w both spent at at_other deals (λ x d. d.0) r.dealer;
         below = everyone_joined (λ u. (n : ℕ) → StandsFor u n → n < most) views me other both spent (λ n s. ⊎_elim (r.below me v at n) (r.below other w at_other n) (stands n s)) (λ n s. absurd s.0) r.below;
@@ -87,7 +87,7 @@ module _ {N : Type 0} where
     parts = λ _ i p at. by_place i p at;
   }
     where
-      by_place : (i : ℕ) (p : Part N) → get_elem? (own_part w ∷ parts_of v) i ≡ some p → IsPrefix p.seen log × (entries_by p.number log ≡ p.mine)
+      by_place : (i : ℕ) (p : Part N) → get_elem? (own_part w ∷ all_parts v) i ≡ some p → IsPrefix p.seen log × (entries_by p.number log ≡ p.mine)
       by_place zero p at = subst (λ (q : Part N). IsPrefix q.seen log × (entries_by q.number log ≡ q.mine)) (some-injective (own_part w) p at) (k_too.seen, own_entries log w pass_too alone k_too)
       by_place (suc i) p at = k.parts pass i p at
 

@@ -103,6 +103,22 @@ module _ {N : Type 0} where
   pub entries_more : (k : ℕ) (log added : List (ℕ × N)) → entries_by k added ≡ [] → entries_by k (log ++ added) ≡ entries_by k log
   entries_more k log added none = filter-append (λ e. e.0 == k) log added ∙ ap (λ (l : List (ℕ × N)). entries_by k log ++ l) none ∙ append-nil (entries_by k log)
 
+  no_length : (xs : List (ℕ × N)) → length xs ≡ 0 → xs ≡ []
+  no_length [] none = refl
+  no_length (x ∷ xs) none = absurd (omega arith)
+
+  -- where a list and a beginning of it have the same entries of a number, so has each list between them
+  pub entries_between : (k : ℕ) (front middle whole mine : List (ℕ × N)) → IsPrefix front middle → IsPrefix middle whole → entries_by k front ≡ mine → entries_by k whole ≡ mine → entries_by k middle ≡ mine
+  entries_between k front middle whole mine p q is was =
+      let a : entries_by k middle ≡ mine ++ entries_by k p.0 = ap (entries_by k) p.1 ∙ filter-append (λ e. e.0 == k) front p.0 ∙ ap (λ (l : List (ℕ × N)). l ++ entries_by k p.0) is in
+      let b : mine ≡ (mine ++ entries_by k p.0) ++ entries_by k q.0 = sym was ∙ ap (entries_by k) q.1 ∙ filter-append (λ e. e.0 == k) middle q.0 ∙ ap (λ (l : List (ℕ × N)). l ++ entries_by k q.0) a in
+      let none : length (entries_by k p.0) ≡ 0 = omega (arith, ap length b, length-append (mine ++ entries_by k p.0) (entries_by k q.0), length-append mine (entries_by k p.0)) in
+      a ∙ ap (λ (l : List (ℕ × N)). mine ++ l) (no_length (entries_by k p.0) none) ∙ append-nil mine
+
+  -- the entries of a number, where its pass added one or none
+  pub entries_added : (k : ℕ) (log added mine : List (ℕ × N)) → entries_by k log ≡ mine → IsAtMostOne k added → entries_by k (log ++ added) ≡ mine ++ added
+  entries_added k log added mine is one = filter-append (λ e. e.0 == k) log added ∙ ap (λ (l : List (ℕ × N)). l ++ entries_by k added) is ∙ ap (λ (l : List (ℕ × N)). mine ++ l) (its_entry k added one)
+
   -- each part has one of the numbers
   pub number_of_part : (joined : List (Part N)) (own p : Part N) (i : ℕ) → get_elem? (parts_or joined own) i ≡ some p → Contains (numbers_or joined own.number) p.number
   number_of_part [] own p zero at = (0, omega arith, ap (λ (q : Part N). q.number) (some-injective own p at))
@@ -176,3 +192,12 @@ module _ {N : Type 0} where
       by_place : (k : ℕ) → k < length (xs ∷ xss) → slice_index_or (xs ∷ xss) k log ≡ log → (longer seen xs ≡ log) ⊎ Contains xss log
       by_place zero h is = inl (longer_right seen xs log begins is)
       by_place (suc k) h is = inr (k, omega arith, is)
+
+  -- a pass that heard a note has of its number just its own entries, in what it has seen then
+  pub settles_own : (k : ℕ) (note log : List (ℕ × N)) (before mid after : View N) → entries_by k before.seen ≡ before.mine → before.number ≡ k
+      → mid.seen ≡ before.seen → mid.mine ≡ before.mine → mid.number ≡ before.number → mid.heard ≡ note ∷ [] → after.seen ≡ longest mid.seen mid.heard → after.mine ≡ mid.mine
+      → IsPrefix mid.seen (longer mid.seen note) → IsPrefix (longer mid.seen note) log → entries_by mid.number log ≡ mid.mine → entries_by k after.seen ≡ after.mine
+  settles_own k note log before mid after own is_k seen mine number heard settled settled_mine begins within was =
+      ap (entries_by k) (settled ∙ ap (longest mid.seen) heard)
+      ∙ entries_between k mid.seen (longer mid.seen note) log mid.mine begins within (ap (entries_by k) seen ∙ own ∙ sym mine) (subst (λ (n : ℕ). entries_by n log ≡ mid.mine) (number ∙ is_k) was)
+      ∙ sym settled_mine

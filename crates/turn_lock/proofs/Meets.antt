@@ -8,7 +8,7 @@ use Rattle.turn_lock.specs.declared.view.View.{View}
 use Rattle.turn_lock.specs.Journals.{IsPrefix}
 use Rattle.turn_lock.specs.Views.{IsPass, HasTicket, note_of, spent, hearing, settled, longest}
 use Rattle.turn_lock.specs.Locks.{Lock, At, StandsFor, HasWidth, Deals, Numbered, Knows, Saw, Rule}
-use Rattle.turn_lock.specs.Steps.{Copy, Hear, Settle, with_view, with_new}
+use Rattle.turn_lock.specs.Working.Steps.{Copy, Hear, Settle, with_view, with_new}
 use Rattle.turn_lock.proofs.Seats.{everyone_set, everyone_new, someone_set, someone_new, someone_joined, everyone_joined, apart_less}
 use Rattle.turn_lock.proofs.Numbers.{resting_pass, numbered_same, numbered_new}
 use Rattle.turn_lock.proofs.Lines.{line_same, line_new}

@@ -8,11 +8,11 @@ use Rattle.turn_lock.specs.declared.view.View.{View}
 use Rattle.turn_lock.specs.Journals.{IsPrefix}
 use Rattle.turn_lock.specs.Views.{IsPass, HasTicket, IsAtRest, newcomer, dealt, next_pass, note_of, hearing, settled, gathered, spent}
 use Rattle.turn_lock.specs.Locks.{Lock, At, StandsFor, HasWidth, Deals, Knows, Rule}
-use Rattle.turn_lock.specs.Steps.{with_view, with_new}
+use Rattle.turn_lock.specs.Working.Steps.{with_view, with_new}
 use Rattle.turn_lock.specs.Tables.{Hold, Standing, learned}
 use Rattle.turn_lock.proofs.Allowed.{at_lock}
-use Rattle.turn_lock.proofs.Numbers.{contains_one}
-use Rattle.turn_lock.proofs.Logs.{prefix_itself, knows_alone, nothing_heard, begins_longer}
+use Rattle.turn_lock.proofs.Numbers.{contains_one, resting_pass}
+use Rattle.turn_lock.proofs.Logs.{prefix_itself, knows_alone, nothing_heard, begins_longer, longer_begins, own_entries}
 use Rattle.turn_lock.proofs.Slots.{resting_not_called}
 use Rattle.turn_lock.proofs.Deals.{deal_keeps}
 use Rattle.turn_lock.proofs.Meets.{copy_keeps, hear_keeps, settle_keeps}
@@ -30,15 +30,15 @@ module _ {S N : Type 0} (journal : S → List (ℕ × N)) (turns width : S → �
         keeps = deal_keeps journal turns width passes id l (with_new (with_view l id (dealt v)) (next_pass v)) r.keeps record { view = v; at = at_lock journal turns width passes id s r v at; rests = rests; deals = some_made; room = room; becomes = refl };
       }
 
-  pub copies : (passes id : ℕ) (v : View N) → Splits (Standing journal turns width passes) id v v (note_of v)
-  copies passes id v s r at =
+  pub copies : (passes id : ℕ) (v : View N) → IsAtRest v → Splits (Standing journal turns width passes) id v v (note_of v)
+  copies passes id v rests s r at =
       let l = r.lock in
       record {
         lock = with_new l (note_of v);
         words = r.words;
         homes = r.homes;
         views = ap (λ (vs : List (View N)). vs ++ note_of v ∷ []) (set_again s.views id v at ∙ r.views);
-        keeps = copy_keeps journal turns width passes id l (with_new l (note_of v)) r.keeps record { view = v; at = at_lock journal turns width passes id s r v at; becomes = refl };
+        keeps = copy_keeps journal turns width passes id l (with_new l (note_of v)) r.keeps record { view = v; at = at_lock journal turns width passes id s r v at; rests = rests; becomes = refl };
       }
 
   pub hears : (passes id other : ℕ) (v note : View N) → IsAtRest v → note.stage ≡ Note → note.heard ≡ [] → Joins (Standing journal turns width passes) id v other note (hearing v note) spent
@@ -82,7 +82,10 @@ module _ {S N : Type 0} (journal : S → List (ℕ × N)) (turns width : S → �
         },
         (
           refl,
-          λ xs is. begins_longer me.0.seen xs r.keeps.log known.seen (subst (λ (xss : List (List (ℕ × N))). All (λ ys. IsPrefix ys r.keeps.log) xss) is known.heard 0 [] (omega arith)),
+          λ xs is.
+              let hears = subst (λ (xss : List (List (ℕ × N))). All (λ ys. IsPrefix ys r.keeps.log) xss) is known.heard 0 [] (omega arith) in
+              let both = begins_longer me.0.seen xs r.keeps.log known.seen hears in
+              (both.0, (both.1, (r.keeps.log, (longer_begins me.0.seen xs r.keeps.log known.seen hears, own_entries r.keeps.log me.0 (resting_pass me.0.stage rests) alone known)))),
         ),
       )
 

@@ -11,7 +11,7 @@ use Rattle.turn_lock.specs.declared.view.View.{View}
 use Rattle.turn_lock.specs.Journals.{entries_by, IsPrefix}
 use Rattle.turn_lock.specs.Views.{HasTicket, waiting, called, raised}
 use Rattle.turn_lock.specs.Locks.{Lock, At, Everyone, StandsFor, Knows, Saw, AtHome, Away, Rule}
-use Rattle.turn_lock.specs.Steps.{Draw, Look, TakeOut, PutBack, Raise, drawn, taken}
+use Rattle.turn_lock.specs.Working.Steps.{Draw, Look, TakeOut, PutBack, Raise, drawn, taken}
 use Rattle.turn_lock.proofs.Seats.{there, one_at, everyone_set, someone_set}
 use Rattle.turn_lock.proofs.Numbers.{resting_pass, ticket_pass, numbered_same, line_at_most, stands_for_own}
 use Rattle.turn_lock.proofs.Lines.{line_same, line_draw, line_raise, served_first}

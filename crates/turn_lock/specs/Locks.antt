@@ -3,7 +3,7 @@ use Rattle.std.specs.Prelude.{◌≡◌, ℕ, ◌+◌, ◌%◌, ◌^◌, ◌<◌
 use mathlib.Core.Option.{Option as Maybe, none, some}
 use lib.ListN.{get_elem?}
 use Rattle.turn_lock.specs.Journals.{entries_by, IsPrefix}
-use Rattle.turn_lock.specs.Views.{IsPass, HasTicket, parts_of, numbers_of, widths_of}
+use Rattle.turn_lock.specs.Views.{IsPass, HasTicket, all_parts, numbers_of, widths_of}
 use Rattle.turn_lock.specs.declared.view.Stage.TheVariants.{Called}
 use Rattle.turn_lock.specs.declared.view.Part.{Part}
 use Rattle.turn_lock.specs.declared.view.View.{View}
@@ -72,7 +72,7 @@ module _ {N : Type 0} where
   pub record Knows (log : List (ℕ × N)) (v : View N) : Type 0 where
     pub seen : IsPrefix v.seen log
     pub heard : All (λ xs. IsPrefix xs log) v.heard
-    pub parts : IsPass v.stage → (i : ℕ) (p : Part N) → get_elem? (parts_of v) i ≡ some p → IsPrefix p.seen log × (entries_by p.number log ≡ p.mine)
+    pub parts : IsPass v.stage → (i : ℕ) (p : Part N) → get_elem? (all_parts v) i ≡ some p → IsPrefix p.seen log × (entries_by p.number log ≡ p.mine)
 
   -- the view has seen the list, or a note says it
   abbrev pub Saw : List (ℕ × N) → View N → Type 0

@@ -2,7 +2,6 @@
 use Rattle.std.specs.Prelude.{◌≡◌, ℕ, List, [], ◌++◌, map, Contains}
 use Rattle.atomic_table.specs.Seated.{TableId}
 use Rattle.turn_lock.specs.Journals.{entries_by, IsPrefix, IsAtMostOne}
-use Rattle.turn_lock.specs.declared.view.Part.{Part}
 
 -- a pass: which lock it belongs to, its number, the width of the lock's value, the journal as the pass saw it last, and its own entries
 pub record Token (N : Type 0) : Type 0 where
@@ -21,10 +20,6 @@ module _ {N : Type 0} where
   -- a pass of this lock, with this number, that has seen nothing
   abbrev pub fresh : TableId → ℕ → ℕ → Token N
   fresh lock width number = record { lock = lock; number = number; width = width; seen = []; mine = [] }
-
-  -- what a pass that has joined another leaves with it
-  abbrev pub part_of : Token N → Part N
-  part_of p = record { number = p.number; width = p.width; seen = p.seen; mine = p.mine }
 
   -- the number is that of one of the passes
   abbrev pub IsNumberOf : List (Token N) → ℕ → Type 0

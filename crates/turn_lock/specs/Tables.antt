@@ -1,10 +1,10 @@
 -- The lock in a table of atomic words and slots, and what each step tells its caller.
-use Rattle.std.specs.Prelude.{◌≡◌, ◌≢◌, ℕ, ◌+◌, ◌%◌, ◌^◌, Option, Some, None, List, [], ◌∷◌, ◌++◌}
+use Rattle.std.specs.Prelude.{◌≡◌, ◌≢◌, ℕ, Option, Some, List, [], ◌∷◌, ◌++◌}
 use Rattle.atomic_table.specs.Table.{State, Me, Step, rest}
-use Rattle.turn_lock.specs.Journals.{entries_by, IsPrefix, IsAtMostOne, longer}
+use Rattle.turn_lock.specs.Journals.{entries_by, IsPrefix, longer}
 use Rattle.turn_lock.specs.Views.{waiting, called, raised, settled}
 use Rattle.turn_lock.specs.Locks.{Lock, Rule}
-use Rattle.turn_lock.specs.declared.view.Stage.TheVariants.{Waiting, Called}
+use Rattle.turn_lock.specs.declared.view.Stage.TheVariants.{Waiting}
 use Rattle.turn_lock.specs.declared.view.View.{View}
 
 -- a seat's view, and the slot where the seat has it
@@ -16,9 +16,9 @@ module _ {S N : Type 0} where
   abbrev pub drew : Step (Option S) → Hold S N → ℕ → Hold S N → Type 0
   drew _ m found m' = m' ≡ (waiting m.0 found, m.1)
 
-  -- the longer of what was seen and what a note says is seen, and both are beginnings of it
+  -- the longer of what was seen and what a note says is seen: both are beginnings of it, and it begins a journal that has no other entry of the pass than its own
   abbrev pub learned : Step (Option S) → Hold S N → ℕ → Hold S N → Type 0
-  learned _ m _ m' = (m' ≡ (settled m.0, m.1)) × ((xs : List (ℕ × N)) → m.0.heard ≡ xs ∷ [] → IsPrefix m.0.seen (longer m.0.seen xs) × IsPrefix xs (longer m.0.seen xs))
+  learned _ m _ m' = (m' ≡ (settled m.0, m.1)) × ((note : List (ℕ × N)) → m.0.heard ≡ note ∷ [] → IsPrefix m.0.seen (longer m.0.seen note) × (IsPrefix note (longer m.0.seen note) × ((log : List (ℕ × N)) × (IsPrefix (longer m.0.seen note) log × (entries_by m.0.number log ≡ m.0.mine)))))
 
 module _ {S N : Type 0} (journal : S → List (ℕ × N)) (turns width : S → ℕ) where
   -- the table has the two words, the slot and the views of a lock that keeps the rule
@@ -37,26 +37,6 @@ module _ {S N : Type 0} (journal : S → List (ℕ × N)) (turns width : S → �
     pub width_is : width value ≡ before.width
     pub has_seen : IsPrefix before.seen (journal value)
     pub has_mine : entries_by before.number (journal value) ≡ before.mine
-
-  -- the turn of a pass with this view has come, and the value is out of the slot
-  pub record Begun (before : View N) (value : S) (after : Hold S N) : Type 0 where
-    pub ticket : ℕ
-    pub becomes : after ≡ (called before ticket (journal value), (0, None) ∷ [])
-    pub turns_is : turns value ≡ ticket
-    pub width_is : width value ≡ before.width
-    pub has_seen : IsPrefix before.seen (journal value)
-    pub has_mine : entries_by before.number (journal value) ≡ before.mine
-
-  -- the value that is put back has had one turn more, and at most one entry of the pass more
-  pub record Ending (before : Hold S N) (value : S) : Type 0 where
-    pub ticket : ℕ
-    pub added : List (ℕ × N)
-    pub turn : before.0.stage ≡ Called ticket
-    pub has : before.1 ≡ (0, Some value) ∷ []
-    pub counts : turns value ≡ (ticket + 1) % 2 ^ 64
-    pub keeps_width : width value ≡ before.0.width
-    pub grows : journal value ≡ before.0.seen ++ added
-    pub one : IsAtMostOne before.0.number added
 
   -- a waiting pass took the slot where its ticket was found, and else nothing changed
   abbrev pub looked : Step (Option S) → Hold S N → ℕ → Hold S N → Type 0

@@ -32,8 +32,8 @@ module _ {N : Type 0} where
   parts_or (p ∷ ps) own = p ∷ ps
 
   -- the numbers that the view stands for, each with what it had seen and its entries: its own, and those of the passes that joined it
-  abbrev pub parts_of : View N → List (Part N)
-  parts_of v = parts_or v.joined (own_part v)
+  abbrev pub all_parts : View N → List (Part N)
+  all_parts v = parts_or v.joined (own_part v)
 
   abbrev pub numbers_or : List (Part N) → ℕ → List ℕ
   numbers_or [] own = own ∷ []
@@ -101,4 +101,4 @@ module _ {N : Type 0} where
 
   -- a pass that has taken in another
   abbrev pub gathered : View N → View N → View N
-  gathered v w = record v { seen = longer v.seen w.seen; made = max v.made w.made; joined = own_part w ∷ parts_of v }
+  gathered v w = record v { seen = longer v.seen w.seen; made = max v.made w.made; joined = own_part w ∷ all_parts v }

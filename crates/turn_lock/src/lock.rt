@@ -1,9 +1,10 @@
 ghost use Rattle.std.specs.Prelude.{◌≡◌, ℕ, ◌<◌, ◌≤◌, [], ◌∷◌, map, vec_len, All, Contains, IfOk};
 ghost use Rattle.std.specs.List.{range_with_len};
 ghost use Rattle.turn_lock.specs.Journals.{entries_by, IsPrefix, longer};
-ghost use Rattle.turn_lock.specs.Views.{newcomer, parts_of};
+ghost use Rattle.turn_lock.specs.Views.{newcomer, all_parts};
 ghost use Rattle.turn_lock.specs.declared.view.Stage.TheVariants.{Resting};
-ghost use Rattle.turn_lock.specs.Passes.{fresh, part_of, IsNumberOf};
+ghost use Rattle.turn_lock.specs.Passes.{fresh, IsNumberOf};
+ghost use Rattle.turn_lock.specs.Working.Parts.{part_of};
 
 use crate::kept::Kept;
 use crate::pass::Pass;
@@ -123,7 +124,7 @@ impl<V: Kept> TurnLock<V> {
         ensures own { result.table_id ≡ self.now.lock }
         ensures free { result.me.1 ≡ [] }
         ensures rests { result.me.0.stage ≡ Resting }
-        ensures parts { parts_of result.me.0 ≡ map part_of passes.items }
+        ensures parts { all_parts result.me.0 ≡ map part_of passes.items }
     {
         let Some(last) = passes.pop() else {
             unreachable!()

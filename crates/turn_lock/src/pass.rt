@@ -11,6 +11,7 @@ pub struct Pass<V: Kept> {
 
 impl<V: Kept> Model for Pass<V> {
     ghost use Rattle.std.specs.Prelude.{◌≡◌, []};
+    ghost use Rattle.turn_lock.specs.Journals.{entries_by};
     ghost use Rattle.turn_lock.specs.Passes.{Token};
     ghost use Rattle.turn_lock.specs.Views.{IsAtRest};
 
@@ -18,16 +19,19 @@ impl<V: Kept> Model for Pass<V> {
 
     ghost view = { λ p. record { lock = p.seat.table_id; number = p.number; width = p.seat.me.0.width; seen = p.seat.me.0.seen; mine = p.seat.me.0.mine } };
 
-    ghost invariant = { λ p. IsAtRest p.seat.me.0 × (p.seat.me.1 ≡ []) × (p.seat.me.0.number ≡ p.number) };
+    ghost invariant = { λ p. IsAtRest p.seat.me.0 × (p.seat.me.1 ≡ []) × (p.seat.me.0.number ≡ p.number) × (entries_by p.number p.seat.me.0.seen ≡ p.seat.me.0.mine) };
 }
 
 impl<V: Kept> Pass<V> {
     ghost use Rattle.std.specs.Prelude.{◌≡◌, []};
-    ghost use Rattle.turn_lock.specs.Passes.{part_of};
+    ghost use Rattle.turn_lock.specs.Journals.{entries_by};
+    ghost use Rattle.turn_lock.specs.Working.Parts.{part_of};
     ghost use Rattle.turn_lock.specs.Views.{IsAtRest, own_part};
 
     pub fn number(&self) -> u32
-        ensures { result ≡ self.now.number }
+        ensures number { result ≡ self.now.number }
+        // Of what the pass has seen, its own entries are just those of its number.
+        ensures mine { entries_by self.now.number self.now.seen ≡ self.now.mine }
     {
         self.number
     }

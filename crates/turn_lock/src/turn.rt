@@ -2,7 +2,8 @@ ghost use Rattle.std.specs.Prelude.{◌≡◌, ℕ, Some, None, List, [], ◌∷
 ghost use Rattle.std.specs.Bool.{OnTrue, OnFalse};
 ghost use Rattle.turn_lock.specs.Passes.{Turned};
 ghost use Rattle.turn_lock.specs.Views.{IsAtRest, raised};
-ghost use Rattle.turn_lock.specs.Tables.{Took, Begun, Ending};
+ghost use Rattle.turn_lock.specs.Tables.{Took};
+ghost use Rattle.turn_lock.specs.Working.Turns.{Begun, Ending};
 ghost use Rattle.turn_lock.specs.declared.view.Stage.TheVariants.{Waiting};
 
 use crate::kept::{Change, Kept};

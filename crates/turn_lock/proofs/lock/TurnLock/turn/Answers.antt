@@ -1,6 +1,7 @@
-use Rattle.std.proofs.Common.{◌≡◌, [], ◌++◌, ap, ap₂, sym, subst, ◌∙◌}
-use Rattle.turn_lock.specs.Journals.{entries_by}
+use Rattle.std.proofs.Common.{◌≡◌, [], ◌+◌, ◌%◌, ◌^◌, ◌++◌, ap, ap₂, sym, subst, ◌∙◌}
+use Rattle.turn_lock.specs.Journals.{entries_by, IsAtMostOne}
 use Rattle.turn_lock.specs.Views.{raised}
+use Rattle.turn_lock.proofs.Logs.{entries_added}
 use Rattle.turn_lock.specs.Passes.{Token, Turned}
 use Rattle.turn_lock.proofs.lock.TurnLock.turn.Given as given
 use Rattle.turn_lock.proofs.lock.TurnLock.turn.Goals as goal
@@ -13,13 +14,39 @@ ended g c =
     let view = c.put_back.ensures.view ∙ ap (λ m. m.0) c.begin-value.ensures.begun.becomes in
     c.serve_next.ensures.ended after adds.0 c.put_back.ensures.put (adds.1 ∙ ap (λ xs. xs ++ adds.0) (sym (ap (λ v. v.seen) view))) ∙ ap (λ v. (raised v (g.V.Kept.journal after) adds.0, [])) view
 
+pub serve_next-requires-clause-turn : goal.serve_next-requires-clause-turn
+serve_next-requires-clause-turn g c =
+    let begun = c.begin-value.ensures.begun in
+    let adds = c.apply-answer.ensures.adds in
+    let view = c.put_back.ensures.view ∙ ap (λ m. m.0) begun.becomes in (
+      c.apply-answer.new.value,
+      record {
+        ticket = begun.ticket;
+        added = adds.0;
+        turn = ap (λ v. v.stage) view;
+        has = c.put_back.ensures.put;
+        counts = c.apply-answer.ensures.turns ∙ ap (λ n. (n + 1) % 2 ^ 64) begun.turns_is;
+        keeps_width = c.apply-answer.ensures.width ∙ begun.width_is ∙ sym (ap (λ v. v.width) view);
+        grows = adds.1 ∙ ap (λ xs. xs ++ adds.0) (sym (ap (λ v. v.seen) view));
+        one = subst (λ n. IsAtMostOne n adds.0) (sym (ap (λ v. v.number) view ∙ c.pass.invariant.2)) adds.2;
+      },
+    )
+
 pub invariant_of-pass : goal.invariant_of-pass
 invariant_of-pass g c =
     let end = ended g c in
+    let start = c.pass.inside.seat.me.0 in
+    let before = c.begin-value.result in
+    let begun = c.begin-value.ensures.begun in
+    let adds = c.apply-answer.ensures.adds in
+    let number = c.pass.inside.number in
     let rest = c.pass.invariant.0 in (
       record { rests = ap (λ m. m.0.stage) end; alone = ap (λ m. m.0.joined) end ∙ rest.alone; quiet = ap (λ m. m.0.heard) end ∙ rest.quiet },
       ap (λ m. m.1) end,
       ap (λ m. m.0.number) end ∙ c.pass.invariant.2,
+      ap (entries_by number) (ap (λ m. m.0.seen) end ∙ adds.1)
+          ∙ entries_added number (g.V.Kept.journal before) adds.0 start.mine (subst (λ n. entries_by n (g.V.Kept.journal before) ≡ start.mine) c.pass.invariant.2 begun.has_mine) adds.2
+          ∙ sym (ap (λ m. m.0.mine) end),
     )
 
 pub returns : goal.returns

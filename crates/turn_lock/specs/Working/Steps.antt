@@ -104,10 +104,11 @@ module _ {S N : Type 0} where
     pub rests : view.stage ≡ Resting
     pub all : (n : ℕ) → n < passes → Contains (numbers_of view) n
 
-  -- 9. Copies what a pass has seen into a note, with a seat of its own;
+  -- 9. Copies what a resting pass has seen into a note, with a seat of its own;
   pub record Copy (seat : ℕ) (l l' : Lock S N) : Type 0 where
     pub view : View N
     pub at : At l.views seat view
+    pub rests : IsAtRest view
     pub becomes : l' ≡ with_new l (note_of view)
 
   -- a resting pass takes the note in, and keeps both lists;
