@@ -1,0 +1,10 @@
+//! A registry of facts: each fact once, in the order of registration.
+#![tactic(auto)]
+
+mod laws;
+mod registry;
+#[cfg(test)]
+mod tests;
+
+pub use laws::registered_facts;
+pub use registry::Registry;
