@@ -1,0 +1,6 @@
+pub mod Tokenizing
+pub mod Parsing
+pub mod Rendering
+pub mod Views
+pub mod PlainViews
+pub mod Writing
