@@ -1,0 +1,15 @@
+pub mod Words
+pub mod Places
+pub mod Rows
+pub mod Instructions
+pub mod Cells
+pub mod HashLoop
+pub mod Instances
+pub mod Turns
+pub mod Tasks
+pub mod Headers
+pub mod StretchLaws
+pub mod Laws
+pub mod Frames
+pub mod Batch
+pub mod Working
