@@ -2,13 +2,13 @@
 use Rattle.std.proofs.Common.{◌≡◌, ℕ, ◌+◌, ◌-◌, ◌<◌, not, Bool, true, false, cond, nat_lt, List, [], ◌∷◌, length, Option, Some, None, option_map, Result, Ok, Err, refl, sym, ap, subst, ◌∙◌, arith}
 use Rattle.std.specs.List.{position_or_len, prefix_len}
 use Rattle.std.proofs.lemmas.Bool.Decides.{nat_tests}
-use Rattle.cairo_model.specs.Certificates.{CertRecord}
-use Rattle.cairo_model.specs.FieldMemories.{cell_at}
-use Rattle.cairo_model.specs.Machine.{Registers, field_arithmetic, next, RunFrom, RunsTo, last_of}
-use Rattle.cairo_model.specs.MachineAcceptance.{MachineAccepts}
+use Rattle.cairo_model.specs.Certificate.Records.{CertRecord}
+use Rattle.cairo_model.specs.Machine.FieldMemories.{cell_at}
+use Rattle.cairo_model.specs.Machine.Steps.{Registers, field_arithmetic, next, RunFrom, RunsTo, last_of}
+use Rattle.cairo_model.specs.Certificate.Acceptance.{MachineAccepts}
 use Rattle.cairo_model.specs.declared.fault.StepFault.{StepFault}
-use Rattle.shared_prover_cli.specs.RunFaults.{first_failing, holds, start_tests, end_tests, same_registers, cause_of, or_else, row_fault, start_fault, end_fault, spans_fault, states_fault, fault_of}
-use Rattle.shared_prover_cli.specs.SpanFaults.{absent_in, hash_fault, range_fault}
+use Rattle.shared_prover_cli.specs.Working.RunFaults.{first_failing, holds, start_tests, end_tests, same_registers, cause_of, or_else, row_fault, start_fault, end_fault, spans_fault, states_fault, fault_of}
+use Rattle.shared_prover_cli.specs.Working.SpanFaults.{absent_in, hash_fault, range_fault}
 use Rattle.shared_prover_cli.specs.declared.run_fault.RowCause.{RowCause}
 use Rattle.shared_prover_cli.specs.declared.run_fault.RowCause.TheVariants as causes
 use Rattle.shared_prover_cli.specs.declared.run_fault.RunFault.{RunFault}

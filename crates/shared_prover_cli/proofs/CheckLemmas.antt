@@ -2,9 +2,9 @@
 use Rattle.std.proofs.Common.{◌≡◌, ℕ, suc, ◌+◌, ◌-◌, ◌<◌, ◌≤◌, List, [], ◌∷◌, ◌++◌, map, length, get_or, slice_index, Some, inl, inr, refl, sym, ap, ◌∙◌, arith}
 use Rattle.std.proofs.lemmas.Bool.{cases_lt}
 use Rattle.std.proofs.lemmas.List.{get_or_append_left, get_or_push, length-append}
-use Rattle.cairo_model.specs.FieldMemories.{FieldCell, cell_at}
-use Rattle.cairo_model.specs.Machine.{Registers, last_of}
-use Rattle.cairo_model.specs.MachineAcceptance.{SpanHolds}
+use Rattle.cairo_model.specs.Machine.FieldMemories.{FieldCell, cell_at}
+use Rattle.cairo_model.specs.Machine.Steps.{Registers, last_of}
+use Rattle.cairo_model.specs.Certificate.Acceptance.{SpanHolds}
 
 -- the last state of a list seen through a view
 pub last_in : {X : Type 0} (view : X → Registers ℕ) (s : Registers ℕ) (xs : List X) (d : X) → 0 < length xs → last_of s (map view xs) ≡ view (get_or xs (length xs - 1) d)

@@ -1,21 +1,23 @@
 -- The fault of a certificate is the first of the causes that apply, and it is accepted where none does.
 use Rattle.std.proofs.Common.{◌≡◌, ℕ, ◌+◌, ◌-◌, ◌*◌, ◌<◌, ◌≤◌, List, [], ◌∷◌, length, slice_get, Option, Some, None, option_map, refl, sym, ap, subst, ◌∙◌, arith}
-use Rattle.cairo_model.specs.Certificates.{CertRecord}
-use Rattle.cairo_model.specs.FieldMemories.{cell_at}
-use Rattle.cairo_model.specs.FirstFailing.{NoneBelow}
-use Rattle.cairo_model.specs.Machine.{Registers, last_of}
-use Rattle.cairo_model.specs.MachineAcceptance.{MachineAccepts}
+use Rattle.cairo_model.specs.Certificate.Records.{CertRecord}
+use Rattle.cairo_model.specs.Machine.FieldMemories.{cell_at}
+use Rattle.cairo_model.specs.Refusals.FirstFailing.{NoneBelow}
+use Rattle.cairo_model.specs.Machine.Runs.{LeadsOn}
+use Rattle.cairo_model.specs.Machine.Steps.{Registers, field_arithmetic, last_of}
+use Rattle.cairo_model.specs.Certificate.Acceptance.{MachineAccepts}
 use Rattle.cairo_model.proofs.Firsts as firsts
 use Rattle.cairo_model.proofs.Outcomes.{some_is}
-use Rattle.shared_prover_cli.specs.FaultCauses.{IsFaultCause, IsFirstFault, IsFirstState, IsInSpan, IsLastState, IsRowCause, IsThere, HasInstance, HasRangeCell, KeepsEndRule, KeepsStartRule, LeadsOn, fault_number}
-use Rattle.shared_prover_cli.specs.RunFaults.{end_fault, end_tests, fault_of, first_failing, or_else, row_fault, spans_fault, start_fault, start_tests, states_fault}
-use Rattle.shared_prover_cli.specs.SpanFaults.{absent_in, hash_fault, range_fault}
+use Rattle.cairo_model.proofs.RunParts.{all_lead}
+use Rattle.shared_prover_cli.specs.FaultCauses.{IsFaultCause, IsFirstFault, IsFirstState, IsInSpan, IsLastState, IsRowCause, IsThere, HasWholeInstance, HasCellInRange, KeepsEndRule, KeepsStartRule, fault_number}
+use Rattle.shared_prover_cli.specs.Working.RunFaults.{end_fault, end_tests, fault_of, first_failing, or_else, row_fault, spans_fault, start_fault, start_tests, states_fault}
+use Rattle.shared_prover_cli.specs.Working.SpanFaults.{absent_in, hash_fault, range_fault}
 use Rattle.shared_prover_cli.specs.declared.run_fault.RunFault.{RunFault}
 use Rattle.shared_prover_cli.specs.declared.run_fault.RunFault.TheVariants as faults
 use Rattle.shared_prover_cli.proofs.CheckLaws.{accepted, clean, rows_run}
 use Rattle.shared_prover_cli.proofs.FrameCauses.{end_full, end_is, last_at, start_full, start_is}
 use Rattle.shared_prover_cli.proofs.OrElse.{first_none, first_some, map_none, map_some}
-use Rattle.shared_prover_cli.proofs.RowCauses.{IsFirstStop, all_lead, one_row_cause, stop_is}
+use Rattle.shared_prover_cli.proofs.RowCauses.{IsFirstStop, one_row_cause, stop_is}
 use Rattle.shared_prover_cli.proofs.SpanCauses.{hash_full, hash_is, output_full, output_is, range_full, range_is}
 
 -- ---- one first fault
@@ -79,15 +81,15 @@ module _ (cert : CertRecord) where
   no_end rule (faults.End k) e cause = cause.fails (rule k cause.inside.0 cause.inside.1)
   no_end rule f e cause = absurd (omega (arith, e))
 
-  no_range : ((k : ℕ) → IsInSpan cert.range k → HasRangeCell cert.cells (cert.range.start + k)) → (f : RunFault) → fault_number f ≡ 4 → ¬ IsFaultCause cert f
+  no_range : ((k : ℕ) → IsInSpan cert.range k → HasCellInRange cert.cells (cert.range.start + k)) → (f : RunFault) → fault_number f ≡ 4 → ¬ IsFaultCause cert f
   no_range rule (faults.Range i) e cause = cause.fails (rule i cause.inside)
   no_range rule f e cause = absurd (omega (arith, e))
 
-  no_hash : ((k : ℕ) → IsInSpan cert.hash (20 * k) → HasInstance cert.cells cert.hash.stop (cert.hash.start + 20 * k)) → (f : RunFault) → fault_number f ≡ 5 → ¬ IsFaultCause cert f
+  no_hash : ((k : ℕ) → IsInSpan cert.hash (20 * k) → HasWholeInstance cert.cells cert.hash.stop (cert.hash.start + 20 * k)) → (f : RunFault) → fault_number f ≡ 5 → ¬ IsFaultCause cert f
   no_hash rule (faults.Hash i) e cause = cause.fails (rule i cause.inside)
   no_hash rule f e cause = absurd (omega (arith, e))
 
-  no_row : ((k : ℕ) → k + 1 < length cert.states → LeadsOn cert.cells cert.states k) → (f : RunFault) → fault_number f ≡ 6 → ¬ IsFaultCause cert f
+  no_row : ((k : ℕ) → k + 1 < length cert.states → LeadsOn field_arithmetic (cell_at cert.cells) cert.states k) → (f : RunFault) → fault_number f ≡ 6 → ¬ IsFaultCause cert f
   no_row rule (faults.Row n c) e cause = cause.0.fails (rule n cause.0.inside)
   no_row rule f e cause = absurd (omega (arith, e))
 
@@ -141,8 +143,8 @@ module _ (cert : CertRecord) where
         (refl, subst (λ (states : List (Registers ℕ)). IsFirstStop cert.cells states stop.n × IsRowCause cert.cells states stop.n stop.cause) (sym same) (stop.first, stop.why))
 
     past_rows : Passes 6 → row_fault (cell_at cert.cells) 0 first rest ≡ None → Passes 7
-    past_rows passes none = passes_on 6 passes (no_row (subst (λ (states : List (Registers ℕ)). (k : ℕ) → k + 1 < length states → LeadsOn cert.cells states k) (sym same)
-        (all_lead cert.cells first rest (rows_run (cell_at cert.cells) 0 first rest none))))
+    past_rows passes none = passes_on 6 passes (no_row (subst (λ (states : List (Registers ℕ)). (k : ℕ) → k + 1 < length states → LeadsOn field_arithmetic (cell_at cert.cells) states k) (sym same)
+        (all_lead field_arithmetic (cell_at cert.cells) first rest (rows_run (cell_at cert.cells) 0 first rest none))))
 
     -- what comes after each stage
     abbrev rows : Option RunFault

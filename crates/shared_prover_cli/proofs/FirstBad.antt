@@ -1,8 +1,8 @@
 -- The first index at which a test fails.
 use Rattle.std.proofs.Common.{◌≡◌, ℕ, zero, suc, ◌+◌, ◌-◌, ◌<◌, ◌≤◌, Bool, true, false, cond, Option, Some, None, Decides, inl, inr, refl, ap, ◌∙◌, arith}
 use Rattle.std.proofs.lemmas.Bool.{cases_lt}
-use Rattle.cairo_model.specs.FirstFailing.{IsFirstFailing}
-use Rattle.shared_prover_cli.specs.SpanFaults.{first_bad}
+use Rattle.cairo_model.specs.Refusals.FirstFailing.{IsFirstFailing}
+use Rattle.shared_prover_cli.specs.Working.SpanFaults.{first_bad}
 
 passed : (b : Bool) (o : Option ℕ) (i : ℕ) → cond b o (Some i) ≡ None → (b ≡ true) × (o ≡ None)
 passed true o i e = (refl, e)

@@ -2,13 +2,14 @@
 use Rattle.std.proofs.Common.{◌≡◌, ℕ, zero, suc, ◌+◌, ◌-◌, ◌<◌, ◌≤◌, not, Bool, true, false, List, [], ◌∷◌, length, get_or, slice_get, Some, None, Decides, refl, sym, ap, subst, ◌∙◌, arith}
 use Rattle.std.proofs.lemmas.Bool.{eq-eqb, eqb-true}
 use Rattle.std.proofs.lemmas.List.Quantifiers.{position-Some}
-use Rattle.cairo_model.specs.Certificates.{CertRecord}
-use Rattle.cairo_model.specs.FirstFailing.{IsFirstFailing}
-use Rattle.cairo_model.specs.Machine.{Registers, last_of}
-use Rattle.cairo_model.specs.MachineAcceptance.{cell_below}
-use Rattle.cairo_model.proofs.Outcomes.{some_is, not_true, not_false}
-use Rattle.shared_prover_cli.specs.FaultCauses.{IsFirstState, IsLastState, IsState, IsThere, KeepsEndRule, KeepsStartRule}
-use Rattle.shared_prover_cli.specs.RunFaults.{first_failing, start_tests, end_tests}
+use Rattle.cairo_model.specs.Certificate.Records.{CertRecord}
+use Rattle.cairo_model.specs.Refusals.FirstFailing.{IsFirstFailing}
+use Rattle.cairo_model.specs.Machine.Steps.{Registers, last_of}
+use Rattle.cairo_model.specs.Certificate.Acceptance.{cell_below}
+use Rattle.cairo_model.proofs.Outcomes.{not_true, not_false}
+use Rattle.cairo_model.proofs.RunParts.{one_state}
+use Rattle.shared_prover_cli.specs.FaultCauses.{IsFirstState, IsLastState, IsThere, KeepsEndRule, KeepsStartRule}
+use Rattle.shared_prover_cli.specs.Working.RunFaults.{first_failing, start_tests, end_tests}
 use Rattle.shared_prover_cli.proofs.CheckLaws.{AllTrue, holds_is, is_held, none_failing}
 use Rattle.shared_prover_cli.proofs.SpanCauses.{decides_there}
 
@@ -48,9 +49,6 @@ module _ (tests : List Bool) (Inside Rule : ℕ → Type 0) (decides : (k : ℕ)
           subst Rule same ((decides j (omega (arith, below, at.0))).0 (not_false (get_or tests j true) (at.2 j below)))
 
 -- ---- the first and the last state
-
-pub one_state : (states : List (Registers ℕ)) (n : ℕ) (s t : Registers ℕ) → IsState states n s → IsState states n t → s ≡ t
-one_state states n s t is other = some_is s t (sym is ∙ other)
 
 pub last_at : (s : Registers ℕ) (ts : List (Registers ℕ)) → slice_get (s ∷ ts) (length ts) ≡ Some (last_of s ts)
 last_at s [] = refl

@@ -9,11 +9,11 @@ use Rattle.std.proofs.lemmas.Bool.Decides.{Decides-by_and, Decides-ltb}
 use Rattle.std.proofs.lemmas.List.{get_or-drop, get_or-take, length-drop, length-take-le}
 use Rattle.std.proofs.lemmas.Slice.Eq.{bytes_eq-Decides}
 use Rattle.builtin_hash.specs.Instances.{IsInstance, input_numbers, input_words, instance_of, output_words, prime}
-use Rattle.cairo_model.specs.Certificates.{SpanRecord}
-use Rattle.cairo_model.specs.FieldMemories.{FieldCell, cell_at}
-use Rattle.cairo_model.specs.BuiltinCells.{AreInstances}
-use Rattle.cairo_model.specs.MachineAcceptance.{SpanHolds}
-use Rattle.shared_prover_cli.specs.SpanFaults.{first_bad, group_count, has_instance, is_instance, numbers_from}
+use Rattle.cairo_model.specs.Certificate.Records.{SpanRecord}
+use Rattle.cairo_model.specs.Machine.FieldMemories.{FieldCell, cell_at}
+use Rattle.cairo_model.specs.Pie.BuiltinCells.{AreInstances}
+use Rattle.cairo_model.specs.Certificate.Acceptance.{SpanHolds}
+use Rattle.shared_prover_cli.specs.Working.SpanFaults.{first_bad, group_count, has_instance, is_instance, numbers_from}
 use Rattle.shared_prover_cli.proofs.FirstBad.{each_good, none_bad}
 use Rattle.shared_prover_cli.proofs.SpanLaws.{Present, is_there, present, some_value}
 

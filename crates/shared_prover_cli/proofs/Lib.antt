@@ -1,3 +1,5 @@
+mod CodeCells
+mod FewIndices
 mod FirstBad
 mod FrameCauses
 mod InstanceLaws

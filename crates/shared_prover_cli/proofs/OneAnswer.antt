@@ -1,23 +1,31 @@
--- A command has one answer to an input.
-use Rattle.std.proofs.Common.{◌≡◌, ℕ, ◌+◌, ◌-◌, List, length, slice_index, refl, sym, ap, subst, ◌∙◌, arith}
+-- A command has one answer to an input, and none has the status of a script.
+use Rattle.std.proofs.Common.{◌≡◌, ◌≢◌, ℕ, ◌+◌, List, length, slice_index, refl, sym, ap, subst, ◌∙◌, arith}
 use Rattle.std.proofs.lemmas.List.{ext_get_or}
-use Rattle.cairo_model.specs.Acceptance.{CheckedRecord}
-use Rattle.cairo_model.specs.Certificates.{CertRecord, SpanRecord}
-use Rattle.cairo_model.specs.FieldMemories.{FieldCell}
-use Rattle.cairo_model.specs.MachineAcceptance.{MachineAccepts, SpanHolds}
-use Rattle.cairo_model.specs.Verdicts.{Verdict, IsVerdict, admitted, no_file, not_alone}
+use Rattle.cairo_model.specs.Pie.Acceptance.{CheckedRecord}
+use Rattle.cairo_model.specs.Certificate.Records.{CertRecord, SpanRecord}
+use Rattle.cairo_model.specs.Machine.FieldMemories.{FieldCell}
+use Rattle.cairo_model.specs.Certificate.Acceptance.{MachineAccepts, SpanHolds}
+use Rattle.cairo_model.specs.Refusals.Verdicts.{Verdict, IsVerdict, admitted, no_file, not_alone}
+use Rattle.cairo_model.specs.Pie.Records.{segment_size}
+use Rattle.cairo_model.specs.Segments.{program_segment}
 use Rattle.cairo_model.proofs.Outcomes.{some_is}
+use Rattle.cairo_model.proofs.RunLaws.{one_content}
+use Rattle.casm_text.specs.Listings.{IsListing, Lists, listing_text}
+use Rattle.casm_text.specs.Statements.{Statement}
 use Rattle.cert_format.specs.Refusals.{IsFirstCertCause}
 use Rattle.cert_format.specs.Spelling.{CertBytes, spelling}
 use Rattle.cert_format.specs.declared.refusal.CertRefusal.{CertRefusal}
 use Rattle.relocator.specs.LoneCertificates.{IsLoneCertificate}
-use Rattle.shared_prover_cli.specs.Answers.{AnswerOf, IsPlaced}
-use Rattle.shared_prover_cli.specs.CheckAnswers.{CheckAnswer, IsCheckOf, IsOfOnePie, accepted, faulty, no_certificate, not_built}
-use Rattle.shared_prover_cli.specs.CheckTexts.{check_status, check_text}
+use Rattle.shared_prover_cli.specs.Answers.List.{IsListedFor}
+use Rattle.shared_prover_cli.specs.Answers.Place.{IsPlaced}
+use Rattle.shared_prover_cli.specs.Answers.Check.{CheckAnswer, IsCheckOf, IsOfOnePie, accepted, faulty, no_certificate, not_built}
+use Rattle.shared_prover_cli.specs.Answers.CheckTexts.{check_status, check_text}
+use Rattle.shared_prover_cli.specs.Commands.{AnswerOf}
 use Rattle.shared_prover_cli.specs.FaultCauses.{IsFirstFault}
+use Rattle.shared_prover_cli.specs.Replies.{ReplyRecord}
 use Rattle.shared_prover_cli.specs.Texts.{verdict_status, verdict_text}
 use Rattle.shared_prover_cli.specs.declared.command.Command.{Command}
-use Rattle.shared_prover_cli.specs.declared.command.Command.TheVariants.{Replay, Place, Check}
+use Rattle.shared_prover_cli.specs.declared.command.Command.TheVariants as commands
 use Rattle.shared_prover_cli.proofs.FaultLaws.{one_first_fault}
 
 one_list : (cells : List FieldCell) (span : SpanRecord) (xs ys : List ℕ) → SpanHolds cells span xs → SpanHolds cells span ys → xs ≡ ys
@@ -37,7 +45,10 @@ OneCertificate = (bytes : List ℕ) (c d : CertRecord) → CertBytes bytes c →
 abbrev pub OneRefusal : Type 0
 OneRefusal = (bytes : List ℕ) (r s : CertRefusal) → IsFirstCertCause bytes r → IsFirstCertCause bytes s → r ≡ s
 
-module _ (one_verdict : OneVerdict) (one_placement : OnePlacement) (one_certificate : OneCertificate) (one_refusal : OneRefusal) where
+abbrev pub OneListing : Type 0
+OneListing = (words : List ℕ) (ss others : List Statement) → Lists words ss → Lists words others → ss ≡ others
+
+module _ (one_verdict : OneVerdict) (one_placement : OnePlacement) (one_certificate : OneCertificate) (one_refusal : OneRefusal) (one_listing : OneListing) where
   -- ---- check
 
   module _ (bytes : List ℕ) where
@@ -75,15 +86,55 @@ module _ (one_verdict : OneVerdict) (one_placement : OnePlacement) (one_certific
   one_text (no_file refusal) text other p q = p ∙ sym q
   one_text (not_alone cause) text other p q = p ∙ sym q
 
+  -- ---- list
+
+  one_listing_text : (words text other : List ℕ) → IsListing words text → IsListing words other → text ≡ other
+  one_listing_text words text other p q = p.2 ∙ ap listing_text (one_listing words p.0 q.0 p.1 q.1) ∙ sym q.2
+
+  one_listed : (v : Verdict) (text other : List ℕ) → IsListedFor v text → IsListedFor v other → text ≡ other
+  one_listed (admitted found) text other p q =
+      let pie = found.pie in
+      let same : p.0 ≡ q.0 = one_content pie.cells program_segment (segment_size pie program_segment) p.0 q.0 p.1.0 q.1.0 in
+      one_listing_text q.0 text other (subst (λ (words : List ℕ). IsListing words text) same p.1.1) q.1.1
+  one_listed (no_file refusal) text other p q = p ∙ sym q
+  one_listed (not_alone cause) text other p q = p ∙ sym q
+
   -- ---- all commands
 
-  pub one_answer : (command : Command) (input text other : List ℕ) (status number : ℕ) → AnswerOf command input status text → AnswerOf command input number other → (status ≡ number) × (text ≡ other)
-  one_answer Replay input text other status number p q =
+  same_reply : (reply other : ReplyRecord) → reply.status ≡ other.status → reply.text ≡ other.text → reply ≡ other
+  same_reply reply other status text = λ i. record { status = status i; text = text i }
+
+  pub one_answer : (command : Command) (input : List ℕ) (reply other : ReplyRecord) → AnswerOf command input reply → AnswerOf command input other → reply ≡ other
+  one_answer commands.Replay input reply other p q =
       let same = one_verdict input p.verdict q.verdict p.is_verdict q.is_verdict in
-      (p.has_status ∙ ap verdict_status same ∙ sym q.has_status, p.has_text ∙ ap verdict_text same ∙ sym q.has_text)
-  one_answer Place input text other status number p q =
+      same_reply reply other (p.has_status ∙ ap verdict_status same ∙ sym q.has_status) (p.has_text ∙ ap verdict_text same ∙ sym q.has_text)
+  one_answer commands.Place input reply other p q =
       let same = one_verdict input p.verdict q.verdict p.is_verdict q.is_verdict in
-      (p.has_status ∙ ap verdict_status same ∙ sym q.has_status, one_text q.verdict text other (subst (λ (v : Verdict). IsPlaced v text) same p.has_text) q.has_text)
-  one_answer Check input text other status number p q =
+      same_reply reply other (p.has_status ∙ ap verdict_status same ∙ sym q.has_status) (one_text q.verdict reply.text other.text (subst (λ (v : Verdict). IsPlaced v reply.text) same p.has_text) q.has_text)
+  one_answer commands.List input reply other p q =
+      let same = one_verdict input p.verdict q.verdict p.is_verdict q.is_verdict in
+      same_reply reply other (p.has_status ∙ ap verdict_status same ∙ sym q.has_status) (one_listed q.verdict reply.text other.text (subst (λ (v : Verdict). IsListedFor v reply.text) same p.has_text) q.has_text)
+  one_answer commands.Boot input reply other p q = same_reply reply other (p.has_status ∙ sym q.has_status) (p.has_text ∙ sym q.has_text)
+  one_answer commands.Check input reply other p q =
       let same = one_check input p.answer q.answer p.is_answer q.is_answer in
-      (p.has_status ∙ ap check_status same ∙ sym q.has_status, p.has_text ∙ ap check_text same ∙ sym q.has_text)
+      same_reply reply other (p.has_status ∙ ap check_status same ∙ sym q.has_status) (p.has_text ∙ ap check_text same ∙ sym q.has_text)
+
+-- ---- scripts
+
+no_verdict : (v : Verdict) → verdict_status v ≢ 3
+no_verdict (no_file refusal) = λ e. omega (arith, e)
+no_verdict (not_alone cause) = λ e. omega (arith, e)
+no_verdict (admitted found) = λ e. omega (arith, e)
+
+no_check : (a : CheckAnswer) → check_status a ≢ 3
+no_check (accepted steps outputs) = λ e. omega (arith, e)
+no_check not_built = λ e. omega (arith, e)
+no_check (no_certificate refusal) = λ e. omega (arith, e)
+no_check (faulty fault) = λ e. omega (arith, e)
+
+pub no_script : (command : Command) (input : List ℕ) (reply : ReplyRecord) → AnswerOf command input reply → reply.status ≢ 3
+no_script commands.Replay input reply p = λ e. no_verdict p.verdict (sym p.has_status ∙ e)
+no_script commands.Place input reply p = λ e. no_verdict p.verdict (sym p.has_status ∙ e)
+no_script commands.List input reply p = λ e. no_verdict p.verdict (sym p.has_status ∙ e)
+no_script commands.Check input reply p = λ e. no_check p.answer (sym p.has_status ∙ e)
+no_script commands.Boot input reply p = λ e. omega (arith, p.has_status, e)

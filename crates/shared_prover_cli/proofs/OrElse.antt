@@ -1,6 +1,6 @@
 -- The first of two options, and an option under a function.
 use Rattle.std.proofs.Common.{◌≡◌, Option, Some, None, option_map, refl}
-use Rattle.shared_prover_cli.specs.RunFaults.{or_else}
+use Rattle.shared_prover_cli.specs.Working.RunFaults.{or_else}
 use Rattle.cairo_model.proofs.Outcomes.{some_is}
 
 pub map_none : {A B : Type 0} (f : A → B) (o : Option A) → option_map f o ≡ None → o ≡ None

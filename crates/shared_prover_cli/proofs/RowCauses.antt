@@ -1,19 +1,20 @@
 -- The rows: the first fault that the walk finds is at the least state that doesn't lead to the next one.
-use Rattle.std.proofs.Common.{◌≡◌, ◌≢◌, ℕ, zero, suc, ◌+◌, ◌<◌, Bool, true, false, cond, List, [], ◌∷◌, length, slice_get, Some, None, option_map, Result, Ok, Err, refl, sym, ap, subst, ◌∙◌, arith}
-use Rattle.cairo_model.specs.FieldMemories.{FieldCell, cell_at}
-use Rattle.cairo_model.specs.FirstFailing.{IsFirstFailing}
-use Rattle.cairo_model.specs.Machine.{Registers, RunFrom, Step, field_arithmetic, next}
+use Rattle.std.proofs.Common.{◌≡◌, ◌≢◌, ℕ, zero, suc, ◌+◌, ◌<◌, Bool, true, false, cond, List, [], ◌∷◌, length, Some, None, option_map, Result, Ok, Err, refl, sym, ap, subst, ◌∙◌, arith}
+use Rattle.cairo_model.specs.Machine.FieldMemories.{FieldCell, cell_at}
+use Rattle.cairo_model.specs.Refusals.FirstFailing.{IsFirstFailing}
+use Rattle.cairo_model.specs.Machine.Runs.{LeadsOn}
+use Rattle.cairo_model.specs.Machine.Steps.{Registers, Step, field_arithmetic, next}
 use Rattle.cairo_model.specs.declared.fault.StepFault.{StepFault}
 use Rattle.cairo_model.proofs.Chains.{no_fault, ok_same}
 use Rattle.cairo_model.proofs.Outcomes.{some_is}
-use Rattle.shared_prover_cli.specs.FaultCauses.{IsRowCause, LeadsOn, StopsBy}
-use Rattle.shared_prover_cli.specs.RunFaults.{cause_of, row_fault, same_registers}
+use Rattle.cairo_model.proofs.RunParts.{led_before, led_here, led_later, one_on, one_state}
+use Rattle.shared_prover_cli.specs.FaultCauses.{IsRowCause, StopsBy}
+use Rattle.shared_prover_cli.specs.Working.RunFaults.{cause_of, row_fault, same_registers}
 use Rattle.shared_prover_cli.specs.declared.run_fault.RowCause.{RowCause}
 use Rattle.shared_prover_cli.specs.declared.run_fault.RowCause.TheVariants as causes
 use Rattle.shared_prover_cli.specs.declared.run_fault.RunFault.{RunFault}
 use Rattle.shared_prover_cli.specs.declared.run_fault.RunFault.TheVariants as faults
 use Rattle.shared_prover_cli.proofs.CheckLaws.{no_cause, same_self}
-use Rattle.shared_prover_cli.proofs.FrameCauses.{one_state}
 use Rattle.shared_prover_cli.proofs.OrElse.{first_some, map_none, map_some}
 
 -- ---- one pair of states
@@ -54,30 +55,6 @@ module _ (cells : List FieldCell) where
 
   -- ---- a list of states and one more in front
 
-  one_on : (s : Registers ℕ) (states : List (Registers ℕ)) (k : ℕ) → slice_get (s ∷ states) (suc k + 1) ≡ slice_get states (k + 1)
-  one_on s states k = let moved : suc k + 1 ≡ suc (k + 1) = omega arith in ap (slice_get (s ∷ states)) moved
-
-  led_here : (s t : Registers ℕ) (ts : List (Registers ℕ)) → Step field_arithmetic (cell_at cells) s t → LeadsOn cells (s ∷ t ∷ ts) 0
-  led_here s t ts steps = record { state = s; after = t; is_state = refl; is_after = refl; steps = steps }
-
-  led_later : (s : Registers ℕ) (states : List (Registers ℕ)) (k : ℕ) → LeadsOn cells states k → LeadsOn cells (s ∷ states) (suc k)
-  led_later s states k leads = record {
-    state = leads.state;
-    after = leads.after;
-    is_state = leads.is_state;
-    is_after = one_on s states k ∙ leads.is_after;
-    steps = leads.steps;
-  }
-
-  led_before : (s : Registers ℕ) (states : List (Registers ℕ)) (k : ℕ) → LeadsOn cells (s ∷ states) (suc k) → LeadsOn cells states k
-  led_before s states k leads = record {
-    state = leads.state;
-    after = leads.after;
-    is_state = leads.is_state;
-    is_after = sym (one_on s states k) ∙ leads.is_after;
-    steps = leads.steps;
-  }
-
   stops_later : (s : Registers ℕ) (states : List (Registers ℕ)) (k : ℕ) (cause : RowCause) → IsRowCause cells states k cause → IsRowCause cells (s ∷ states) (suc k) cause
   stops_later s states k cause is = record {
     state = is.state;
@@ -87,16 +64,10 @@ module _ (cells : List FieldCell) where
     stops = is.stops;
   }
 
-  -- in a run each state leads to the next one
-  pub all_lead : (s : Registers ℕ) (ts : List (Registers ℕ)) → RunFrom field_arithmetic (cell_at cells) s ts → (k : ℕ) → k + 1 < length (s ∷ ts) → LeadsOn cells (s ∷ ts) k
-  all_lead s [] run k lt = absurd (omega arith)
-  all_lead s (t ∷ ts) run zero lt = led_here s t ts run.0
-  all_lead s (t ∷ ts) run (suc k) lt = led_later s (t ∷ ts) k (all_lead t ts run.1 k (omega arith))
-
   -- ---- the walk
 
   abbrev pub IsFirstStop : List (Registers ℕ) → ℕ → Type 0
-  IsFirstStop states n = IsFirstFailing (λ j. j + 1 < length states) (LeadsOn cells states) n
+  IsFirstStop states n = IsFirstFailing (λ j. j + 1 < length states) (LeadsOn field_arithmetic (cell_at cells) states) n
 
   -- what the walk finds from a state of this number on
   pub record Stop (states : List (Registers ℕ)) (number : ℕ) (fault : RunFault) : Type 0 where
@@ -136,15 +107,15 @@ module _ (cells : List FieldCell) where
         is = ap (λ (k : ℕ). faults.Row k stop.cause) same ∙ stop.is;
         first = record {
           inside = omega (arith, stop.first.inside);
-          fails = λ leads. stop.first.fails (led_before s (t ∷ ts) stop.n leads);
+          fails = λ leads. stop.first.fails (led_before field_arithmetic (cell_at cells) s (t ∷ ts) stop.n leads);
           before = before;
         };
         why = stops_later s (t ∷ ts) stop.n stop.cause stop.why;
       }
     where
-      before : (k : ℕ) → k < suc stop.n → LeadsOn cells (s ∷ t ∷ ts) k
-      before zero lt = led_here s t ts steps
-      before (suc k) lt = led_later s (t ∷ ts) k (stop.first.before k (omega arith))
+      before : (k : ℕ) → k < suc stop.n → LeadsOn field_arithmetic (cell_at cells) (s ∷ t ∷ ts) k
+      before zero lt = led_here field_arithmetic (cell_at cells) s t ts steps
+      before (suc k) lt = led_later field_arithmetic (cell_at cells) s (t ∷ ts) k (stop.first.before k (omega arith))
 
   pub stop_is : (number : ℕ) (s : Registers ℕ) (ts : List (Registers ℕ)) (fault : RunFault) → row_fault (cell_at cells) number s ts ≡ Some fault → Stop (s ∷ ts) number fault
   stop_is number s [] fault found = absurd (cc)

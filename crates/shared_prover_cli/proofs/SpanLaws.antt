@@ -1,13 +1,13 @@
 -- The spans of outputs and of range cells: no index is bad exactly where each cell is what is asked of it.
-use Rattle.std.proofs.Common.{◌≡◌, ℕ, zero, suc, ◌+◌, ◌-◌, ◌<◌, true, List, [], ◌∷◌, length, slice_index, Option, Some, None, is_some, refl, sym, ap, subst, ◌∙◌, arith}
+use Rattle.std.proofs.Common.{◌≡◌, ℕ, zero, suc, ◌+◌, ◌-◌, ◌<◌, true, List, [], ◌∷◌, length, slice_index, Option, Some, None, is_some, option_map, refl, sym, ap, subst, ◌∙◌, arith}
 use Rattle.std.specs.Prelude.{All}
 use Rattle.std.proofs.lemmas.Bool.{lt-ltb, ltb-true}
 use Rattle.std.proofs.lemmas.List.{get_or_default}
 use Rattle.builtin_range.specs.Ranges.{IsRangeCell, range_limit}
-use Rattle.cairo_model.specs.Certificates.{SpanRecord}
-use Rattle.cairo_model.specs.FieldMemories.{FieldCell, cell_at}
-use Rattle.cairo_model.specs.MachineAcceptance.{SpanHolds}
-use Rattle.shared_prover_cli.specs.SpanFaults.{first_bad, has_cell, has_range_cell, is_in_range}
+use Rattle.cairo_model.specs.Certificate.Records.{SpanRecord}
+use Rattle.cairo_model.specs.Machine.FieldMemories.{FieldCell, cell_at}
+use Rattle.cairo_model.specs.Certificate.Acceptance.{SpanHolds}
+use Rattle.shared_prover_cli.specs.Working.SpanFaults.{first_bad, has_cell, has_range_cell, is_in_range}
 use Rattle.shared_prover_cli.proofs.FirstBad.{each_good, none_bad}
 
 -- ---- cells that are there
@@ -40,6 +40,14 @@ present cells start (suc n) there =
 
 pub is_there : {A : Type 0} (o : Option A) (x : A) → o ≡ Some x → is_some o ≡ true
 is_there o x e = rw e refl
+
+pub kept_there : {A B : Type 0} (f : A → B) (o : Option A) → is_some o ≡ true → is_some (option_map f o) ≡ true
+kept_there f None e = e
+kept_there f (Some x) e = refl
+
+pub mapped_there : {A B : Type 0} (f : A → B) (o : Option A) → is_some (option_map f o) ≡ true → is_some o ≡ true
+mapped_there f None e = e
+mapped_there f (Some x) e = refl
 
 -- ---- outputs
 

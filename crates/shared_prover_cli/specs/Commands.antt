@@ -1,18 +1,51 @@
--- The commands, as they are spelled.
-use Rattle.std.specs.Prelude.{◌≡◌, ℕ, List, [], ◌∷◌, codes, map, String, string_bytes}
+-- The table of commands.
+use Rattle.std.specs.Prelude.{◌≡◌, ℕ, Bool, false, true, List, [], ◌∷◌, codes, map, String, string_bytes}
 use Rattle.std.specs.declared.alloc.Global.{Global}
+use Rattle.shared_prover_cli.specs.Answers.Boot.{BootAnswer}
+use Rattle.shared_prover_cli.specs.Answers.CheckTexts.{CheckLine}
+use Rattle.shared_prover_cli.specs.Answers.List.{ListAnswer}
+use Rattle.shared_prover_cli.specs.Answers.Place.{PlaceAnswer}
+use Rattle.shared_prover_cli.specs.Answers.Replay.{ReplayAnswer}
+use Rattle.shared_prover_cli.specs.Replies.{ReplyRecord}
 use Rattle.shared_prover_cli.specs.declared.command.Command.{Command}
-use Rattle.shared_prover_cli.specs.declared.command.Command.TheVariants.{Replay, Place, Check}
+use Rattle.shared_prover_cli.specs.declared.command.Command.TheVariants as commands
 
--- the word of a command
-abbrev pub word_of : Command → List ℕ
-word_of Replay = codes "replay"
-word_of Place = codes "place"
-word_of Check = codes "check"
+-- A row: the words that ask for the command, whether it reads the input, and what it answers to the bytes that it read, which
+-- are none where it reads nothing.
+pub record Row : Type 1 where
+  pub asked_by : List (List ℕ) → Type 0
+  pub reads : Bool
+  pub answers : List ℕ → ReplyRecord → Type 0
 
--- the words are that one alone
+-- this word alone
+abbrev pub IsWord : List ℕ → List (List ℕ) → Type 0
+IsWord word words = words ≡ word ∷ []
+
+abbrev pub row_of : Command → Row
+row_of commands.Replay = record { asked_by = IsWord (codes "replay"); reads = true; answers = ReplayAnswer }
+row_of commands.Place = record { asked_by = IsWord (codes "place"); reads = true; answers = PlaceAnswer }
+row_of commands.List = record { asked_by = IsWord (codes "list"); reads = true; answers = ListAnswer }
+row_of commands.Check = record { asked_by = IsWord (codes "check"); reads = true; answers = CheckLine }
+row_of commands.Boot = record { asked_by = IsWord (codes "boot"); reads = false; answers = λ input. BootAnswer }
+
+-- ---- the table read aloud
+
 abbrev pub Asks : List (String Global) → Command → Type 0
-Asks words command = map string_bytes words ≡ word_of command ∷ []
+Asks words command = (row_of command).asked_by (map string_bytes words)
 
-abbrev pub AsksForNothing : List (String Global) → Type 0
-AsksForNothing words = (command : Command) → ¬ Asks words command
+-- The reply is the command's to this input.
+abbrev pub AnswerOf : Command → List ℕ → ReplyRecord → Type 0
+AnswerOf command = (row_of command).answers
+
+abbrev pub reads_input : Command → Bool
+reads_input command = (row_of command).reads
+
+-- ---- which commands are a top call's own
+
+-- those of `run_plain`
+abbrev pub IsPlainCommand : Command → Type 0
+IsPlainCommand command = Unit {0}
+
+-- no command of these is asked for
+abbrev pub AsksForNone : (Command → Type 0) → List (String Global) → Type 0
+AsksForNone IsOwn words = (command : Command) → IsOwn command → ¬ Asks words command

@@ -1,13 +1,14 @@
 -- Why the machine doesn't accept the certificate of a PIE alone: the causes by their numbers, and the first that applies
 -- (docs/CERTIFICATE.md).
-use Rattle.std.specs.Prelude.{ℕ, ◌≡◌, ◌≢◌, ◌+◌, ◌-◌, ◌*◌, ◌<◌, ◌≤◌, List, length, slice_get, slice_index, Option, Some}
-use Rattle.builtin_hash.specs.Instances.{IsInstance}
+use Rattle.std.specs.Prelude.{ℕ, ◌≡◌, ◌≢◌, ◌+◌, ◌-◌, ◌*◌, ◌<◌, ◌≤◌, List, length, slice_index, Option, Some}
+use Rattle.builtin_hash.specs.Instances.{IsInstance, cells_per_instance}
 use Rattle.builtin_range.specs.Ranges.{IsRangeCell}
-use Rattle.cairo_model.specs.Certificates.{CertRecord, SpanRecord}
-use Rattle.cairo_model.specs.FieldMemories.{FieldCell, cell_at}
-use Rattle.cairo_model.specs.FirstFailing.{IsFirstCause, IsFirstFailing}
-use Rattle.cairo_model.specs.Machine.{Registers, Step, StepFaultOf, field_arithmetic}
-use Rattle.cairo_model.specs.MachineAcceptance.{cell_below}
+use Rattle.cairo_model.specs.Certificate.Records.{CertRecord, SpanRecord}
+use Rattle.cairo_model.specs.Machine.FieldMemories.{FieldCell, cell_at}
+use Rattle.cairo_model.specs.Refusals.FirstFailing.{IsFirstCause, IsFirstFailing}
+use Rattle.cairo_model.specs.Machine.Runs.{IsState, LeadsOn}
+use Rattle.cairo_model.specs.Machine.Steps.{Registers, Step, StepFaultOf, field_arithmetic}
+use Rattle.cairo_model.specs.Certificate.Acceptance.{cell_below}
 use Rattle.shared_prover_cli.specs.declared.run_fault.RowCause.{RowCause}
 use Rattle.shared_prover_cli.specs.declared.run_fault.RowCause.TheVariants as causes
 use Rattle.shared_prover_cli.specs.declared.run_fault.RunFault.{RunFault}
@@ -22,10 +23,6 @@ fault_number (faults.Row n cause) = 6
 fault_number (faults.Output i) = 7
 
 -- ---- the start and the end
-
--- the state of this number, counted from 0
-abbrev pub IsState : List (Registers ℕ) → ℕ → Registers ℕ → Type 0
-IsState states n s = slice_get states n ≡ Some s
 
 abbrev pub IsFirstState : List (Registers ℕ) → Registers ℕ → Type 0
 IsFirstState states s = IsState states 0 s
@@ -66,25 +63,17 @@ pub record KeepsEndRule (cert : CertRecord) (k : ℕ) : Type 0 where
 abbrev pub IsInSpan : SpanRecord → ℕ → Type 0
 IsInSpan span i = span.start + i < span.stop
 
-abbrev pub HasRangeCell : List FieldCell → ℕ → Type 0
-HasRangeCell cells address = (n : ℕ) × ((cell_at cells address ≡ Some n) × IsRangeCell n)
+abbrev pub HasCellInRange : List FieldCell → ℕ → Type 0
+HasCellInRange cells address = (n : ℕ) × ((cell_at cells address ≡ Some n) × IsRangeCell n)
 
 -- the twenty cells from an address on are an instance, and lie below the stop
-pub record HasInstance (cells : List FieldCell) (stop address : ℕ) : Type 0 where
+pub record HasWholeInstance (cells : List FieldCell) (stop address : ℕ) : Type 0 where
   pub numbers : List ℕ
-  pub below : address + 20 ≤ stop
-  pub holds : (k : ℕ) → k < 20 → cell_at cells (address + k) ≡ Some (slice_index numbers k)
+  pub below : address + cells_per_instance ≤ stop
+  pub holds : (k : ℕ) → k < cells_per_instance → cell_at cells (address + k) ≡ Some (slice_index numbers k)
   pub is_instance : IsInstance numbers
 
 -- ---- the rows
-
--- the state of this number leads to the one after it
-pub record LeadsOn (cells : List FieldCell) (states : List (Registers ℕ)) (n : ℕ) : Type 0 where
-  pub state : Registers ℕ
-  pub after : Registers ℕ
-  pub is_state : IsState states n state
-  pub is_after : IsState states (n + 1) after
-  pub steps : Step field_arithmetic (cell_at cells) state after
 
 -- why a state doesn't lead to another: a step from it has this fault, or gives a third
 abbrev pub StopsBy : List FieldCell → Registers ℕ → Registers ℕ → RowCause → Type 0
@@ -104,9 +93,9 @@ pub record IsRowCause (cells : List FieldCell) (states : List (Registers ℕ)) (
 abbrev pub IsFaultCause : CertRecord → RunFault → Type 0
 IsFaultCause cert (faults.Start k) = IsFirstFailing (λ j. j ≤ 6) (KeepsStartRule cert) k
 IsFaultCause cert (faults.End k) = IsFirstFailing (λ j. (1 ≤ j) × (j ≤ 5)) (KeepsEndRule cert) k
-IsFaultCause cert (faults.Range i) = IsFirstFailing (IsInSpan cert.range) (λ j. HasRangeCell cert.cells (cert.range.start + j)) i
-IsFaultCause cert (faults.Hash i) = IsFirstFailing (λ j. IsInSpan cert.hash (20 * j)) (λ j. HasInstance cert.cells cert.hash.stop (cert.hash.start + 20 * j)) i
-IsFaultCause cert (faults.Row n cause) = IsFirstFailing (λ j. j + 1 < length cert.states) (LeadsOn cert.cells cert.states) n × IsRowCause cert.cells cert.states n cause
+IsFaultCause cert (faults.Range i) = IsFirstFailing (IsInSpan cert.range) (λ j. HasCellInRange cert.cells (cert.range.start + j)) i
+IsFaultCause cert (faults.Hash i) = IsFirstFailing (λ j. IsInSpan cert.hash (cells_per_instance * j)) (λ j. HasWholeInstance cert.cells cert.hash.stop (cert.hash.start + cells_per_instance * j)) i
+IsFaultCause cert (faults.Row n cause) = IsFirstFailing (λ j. j + 1 < length cert.states) (LeadsOn field_arithmetic (cell_at cert.cells) cert.states) n × IsRowCause cert.cells cert.states n cause
 IsFaultCause cert (faults.Output i) = IsFirstFailing (IsInSpan cert.output) (λ j. IsThere (cell_at cert.cells (cert.output.start + j))) i
 
 -- the cause applies, and none of a lower number does

@@ -1,14 +1,12 @@
 pub mod Answers
-pub mod CheckAnswers
-pub mod CheckTexts
 pub mod Commands
 pub mod Exits
 pub mod FaultCauses
 pub mod Faults
+pub mod Limits
 pub mod MemoryStreams
-pub mod Numerals
-pub mod RunFaults
+pub mod Replies
 pub mod Runs
-pub mod SpanFaults
 pub mod Texts
 pub mod WholeStreams
+pub mod Working

@@ -7,7 +7,7 @@ pub fn answer(rt: &HostRuntime, word: &str, bytes: Vec<u8>) -> Result<(u8, Vec<u
     let mut words = Vec::new(rt.alloc());
     words.push(word.to_string(rt.alloc())?)?;
     let mut source = MemSource::new(bytes, 1000, Vec::new(rt.alloc()));
-    let mut sink = MemSink::new(rt.alloc(), 2_000, 100, Vec::new(rt.alloc()))?;
-    let status = run_plain(rt.alloc(), rt, words.as_slice(), &mut source, &mut sink);
+    let mut sink = MemSink::new(rt.alloc(), 4_000, 100, Vec::new(rt.alloc()))?;
+    let status = run_plain(rt, rt.alloc(), words.as_slice(), &mut source, &mut sink);
     Ok((status.number(), sink.bytes().to_vec(rt.alloc())?))
 }

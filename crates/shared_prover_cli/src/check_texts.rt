@@ -1,9 +1,9 @@
 ghost use Rattle.std.specs.Prelude.{◌≡◌, ◌++◌, OnOk, IfOk, map};
-ghost use Rattle.shared_prover_cli.specs.CheckAnswers.{faulty, no_certificate, not_built};
-ghost use Rattle.shared_prover_cli.specs.CheckTexts.{accepted_text, cause_number, check_text, fault_text};
+ghost use Rattle.shared_prover_cli.specs.Answers.Check.{faulty, no_certificate, not_built};
+ghost use Rattle.shared_prover_cli.specs.Answers.CheckTexts.{accepted_text, cause_number, check_text, fault_text};
 
-use crate::numerals::{number_of_fault, put_number, put_numbers, put_pair};
 use crate::run_fault::{RowCause, RunFault};
+use cairo_model::{number_of_fault, put_number, put_numbers, put_pair};
 use cert_format::CertRefusal;
 use goldi_field::Felt;
 use std::alloc::{AllocError, Global};
@@ -60,14 +60,14 @@ fn put_fault(alloc: Global, text: &mut Vec<u8>, fault: RunFault) -> Result<(), A
     match fault {
         RunFault::Start(k) => put_pair(alloc, text, 2, u64::from(k)),
         RunFault::End(k) => put_pair(alloc, text, 3, u64::from(k)),
-        RunFault::Range(i) => put_pair(alloc, text, 4, i),
-        RunFault::Hash(i) => put_pair(alloc, text, 5, i),
+        RunFault::Range(i) => put_pair(alloc, text, 4, u64::from(i)),
+        RunFault::Hash(i) => put_pair(alloc, text, 5, u64::from(i)),
         RunFault::Row(n, cause) => {
             put_pair(alloc, text, 6, u64::from(n))?;
             put_number(alloc, text, number_of_cause(cause))
         }
         RunFault::Output(i) => {
-            put_pair(alloc, text, 7, i)?;
+            put_pair(alloc, text, 7, u64::from(i))?;
             text.extend_from_slice(b" - -")
         }
     }

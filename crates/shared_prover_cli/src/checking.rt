@@ -1,31 +1,28 @@
-ghost use Rattle.std.specs.Prelude.{◌≡◌, ◌+◌, ◌-◌, ◌<◌, ◌≤◌, ◌^◌, ℕ, List, map, length, option_map, IfOk, IfSome, Some, None, Err};
-ghost use Rattle.cairo_model.specs.FieldMemories.{cell_at};
-ghost use Rattle.cairo_model.specs.Machine.{Registers, field_arithmetic, next, last_of};
-ghost use Rattle.cairo_model.specs.MachineAcceptance.{cell_below as below, SpanHolds};
-ghost use Rattle.cairo_model.specs.Views.{field_registers};
-ghost use Rattle.shared_prover_cli.specs.RunFaults.{cause_of as cause, end_fault as fault_of_end, end_tests as tests_of_end, fault_of, first_failing as failing, holds as is_cell, row_fault, start_fault as fault_of_start, start_tests as tests_of_start, states_fault as fault_of_states};
-ghost use Rattle.shared_prover_cli.specs.SpanFaults.{absent_in};
+ghost use Rattle.std.specs.Prelude.{◌≡◌, ◌<◌, ◌^◌, map, length, option_map, IfSome};
+ghost use Rattle.cairo_model.specs.Machine.FieldMemories.{cell_at};
+ghost use Rattle.cairo_model.specs.Machine.Steps.{field_arithmetic, next, last_of};
+ghost use Rattle.cairo_model.specs.Certificate.Acceptance.{cell_below as below};
+ghost use Rattle.cairo_model.specs.Views.Machine.{field_registers};
+ghost use Rattle.shared_prover_cli.specs.Working.RunFaults.{cause_of as cause, end_fault as fault_of_end, end_tests as tests_of_end, fault_of, first_failing as failing, holds as is_cell, row_fault, start_fault as fault_of_start, start_tests as tests_of_start, states_fault as fault_of_states};
+ghost use Rattle.shared_prover_cli.specs.Working.SpanFaults.{absent_in};
 
 use crate::run_fault::{RowCause, RunFault};
-use crate::spans::spans_fault;
-use cairo_model::{Cells, Cert, End, FieldState, felt_below, felt_of};
+use crate::spans::{cells_rise, spans_fault};
+use cairo_model::{Cells, Cert, FieldState, felt_below, felt_of};
 use cairo_step::step;
 use goldi_field::Felt;
-use std::alloc::Global;
 
-/// The outputs of a certificate of a PIE alone, or its first fault.
-pub fn checked_outputs(alloc: Global, cert: &Cert) -> Result<Vec<Felt>, End<RunFault>>
-    ensures clean { IfOk result (λ outputs. fault_of cert.now ≡ None) }
-    ensures outputs { IfOk result (λ outputs. SpanHolds cert.now.cells cert.now.output (map (λ f. f.number) outputs.items)) }
-    ensures fault { (f : RunFault) → result ≡ Err (End.Refused f) → fault_of cert.now ≡ Some f }
+/// The first fault of a certificate of a PIE alone. Takes no memory.
+pub fn run_fault(cert: &Cert) -> Option<RunFault>
+    ensures { result ≡ fault_of cert.now }
 {
     if let Some(fault) = states_fault(cert) {
-        return Err(End::Refused(fault));
+        return Some(fault);
     }
-    match outputs_in(alloc, cert) {
-        Ok(outputs) => Ok(outputs),
-        Err(End::Refused(index)) => Err(End::Refused(RunFault::Output(index))),
-        Err(End::OutOfMemory) => Err(End::OutOfMemory),
+    cells_rise(&cert.cells);
+    match absent_output(cert) {
+        Some(index) => Some(RunFault::Output(index as u32)),
+        None => None,
     }
 }
 
@@ -153,19 +150,15 @@ fn cause_of(cells: &Cells, state: FieldState, after: &FieldState) -> Option<RowC
     }
 }
 
-// The numbers of the output span, or the first index at which there is no cell.
-fn outputs_in(alloc: Global, cert: &Cert) -> Result<Vec<Felt>, End<u64>>
-    ensures holds { IfOk result (λ outputs. SpanHolds cert.now.cells cert.now.output (map (λ f. f.number) outputs.items)) }
-    ensures none { IfOk result (λ outputs. absent_in cert.now ≡ None) }
-    ensures absent { (i : ℕ) → result ≡ Err (End.Refused i) → absent_in cert.now ≡ Some i }
+// The first index of the output span at which there is no cell.
+fn absent_output(cert: &Cert) -> Option<u64>
+    ensures { result ≡ absent_in cert.now }
 {
     let start = cert.output.start.value();
-    let mut outputs = Vec::new(alloc);
     for address in start..cert.output.stop.value() {
-        match cert.cells.get(felt_below(address)) {
-            Some(value) => outputs.push(value)?,
-            None => return Err(End::Refused(address - start)),
+        if cert.cells.get(felt_below(address)).is_none() {
+            return Some(address - start);
         }
     }
-    Ok(outputs)
+    None
 }

@@ -1,26 +1,17 @@
-ghost use Rattle.std.specs.Prelude.{◌≡◌, ◌↔◌, ℕ, List, None, Some};
-ghost use Rattle.cairo_model.specs.Certificates.{CertRecord};
-ghost use Rattle.cairo_model.specs.MachineAcceptance.{MachineAccepts};
-ghost use Rattle.shared_prover_cli.specs.Answers.{AnswerOf};
-ghost use Rattle.shared_prover_cli.specs.CheckAnswers.{IsOfOnePie};
+ghost use Rattle.std.specs.Prelude.{◌≡◌, ◌≢◌, ◌↔◌, ℕ, List};
+ghost use Rattle.cairo_model.specs.Certificate.Records.{CertRecord};
+ghost use Rattle.cairo_model.specs.Certificate.Acceptance.{MachineAccepts};
+ghost use Rattle.shared_prover_cli.specs.Answers.Check.{IsOfOnePie};
+ghost use Rattle.shared_prover_cli.specs.Commands.{AnswerOf};
 ghost use Rattle.shared_prover_cli.specs.FaultCauses.{IsFaultCause, IsFirstFault};
-ghost use Rattle.shared_prover_cli.specs.RunFaults.{fault_of};
+ghost use Rattle.shared_prover_cli.specs.Replies.{ReplyRecord};
 ghost use Rattle.shared_prover_cli.specs.declared.run_fault.RunFault.{RunFault};
 
 use crate::command::Command;
-use cert_format::{one_certificate, one_first_cause};
+use casm_text::one_listing;
+use cert_format::{one_certificate, one_first_cert_cause};
 use pie_replay::one_verdict;
 use relocator::one_lone_certificate;
-
-/// A certificate of a PIE alone has no fault exactly where the machine accepts it.
-pub fn faults_and_acceptance()
-    ensures { (cert : CertRecord) → IsOfOnePie cert → ((fault_of cert ≡ None) ↔ MachineAccepts cert) }
-{}
-
-/// The fault that is answered is the first of the causes that apply.
-pub fn first_fault()
-    ensures { (cert : CertRecord) (fault : RunFault) → fault_of cert ≡ Some fault → IsFirstFault cert fault }
-{}
 
 /// A certificate has one first fault at most.
 pub fn one_first_fault()
@@ -34,11 +25,17 @@ pub fn acceptance_by_causes()
 
 /// A command has one answer to an input: one status, and one text.
 pub fn one_answer()
-    ensures { (command : Command) (input text other : List ℕ) (status number : ℕ)
-        → AnswerOf command input status text → AnswerOf command input number other → (status ≡ number) × (text ≡ other) }
+    ensures { (command : Command) (input : List ℕ) (reply other : ReplyRecord)
+        → AnswerOf command input reply → AnswerOf command input other → reply ≡ other }
 {
     one_verdict();
     one_lone_certificate();
     one_certificate();
-    one_first_cause();
+    one_first_cert_cause();
+    one_listing();
 }
+
+/// No command answers that a script is refused, since none reads one.
+pub fn no_script_refused()
+    ensures { (command : Command) (input : List ℕ) (reply : ReplyRecord) → AnswerOf command input reply → reply.status ≢ 3 }
+{}

@@ -1,26 +1,33 @@
 // The program: its streams, its commands and its exit statuses.
 #![tactic(auto)]
 
-mod answer;
+mod answers;
 #[cfg(test)]
 mod asking;
-mod check;
+#[cfg(test)]
+mod boot_tests;
 #[cfg(test)]
 mod check_tests;
 mod check_texts;
 mod checking;
 mod command;
+mod exits;
+#[cfg(test)]
+mod exits_tests;
 mod laws;
 mod limits;
+#[cfg(test)]
+mod list_tests;
 mod memory;
-mod numerals;
-mod place;
+mod outputs;
 #[cfg(test)]
 mod placing_tests;
 mod real;
-mod replay;
 #[cfg(test)]
 mod replay_tests;
+mod reply;
+#[cfg(test)]
+mod roomy_tests;
 mod run;
 mod run_fault;
 mod spans;
@@ -33,7 +40,9 @@ mod texts;
 #[cfg(test)]
 mod vectors;
 mod whole;
+mod words;
 
+use exits::{exit_code, explanation};
 use real::{StdSink, StdSource};
 use run::run_plain;
 use status::Status;
@@ -41,41 +50,35 @@ use std::env;
 use std::io::ErrorKind;
 use std::process::ExitCode;
 use std::rt::Env;
+use words::words_of;
 
 fn main(rt: HostRuntime) -> ExitCode {
     let status = match arguments(&rt) {
-        Ok(words) => {
+        Ok(args) => {
             let mut source = StdSource::new(rt.stdin());
             let mut sink = StdSink::new(rt.stdout());
-            run_plain(rt.alloc(), &rt, words.as_slice(), &mut source, &mut sink)
+            run_plain(
+                &rt,
+                rt.alloc(),
+                words_of(args.as_slice()),
+                &mut source,
+                &mut sink,
+            )
         }
         Err(status) => status,
     };
     if let Some(line) = explanation(status) {
         let _ = eprintln!(rt; "shared_prover: {line}");
     }
-    ExitCode::from(status.number())
+    exit_code(status)
 }
 
-// The program's arguments without its name. A word that is not UTF-8 is no command.
+// The program's arguments. Where one is not UTF-8, no command has these words.
 fn arguments<R: Env + AllocGlobal>(rt: &R) -> Result<Vec<String>, Status> {
     let args = match env::args(rt) {
         Ok(args) => args,
         Err(fault) if fault.kind() == ErrorKind::OutOfMemory => return Err(Status::OutOfMemory),
         Err(_) => return Err(Status::Usage),
     };
-    args.skip(1)
-        .collect(rt.alloc())
-        .map_err(|_| Status::OutOfMemory)
-}
-
-// What standard error says of a run that wrote nothing.
-fn explanation(status: Status) -> Option<&'static str> {
-    match status {
-        Status::Usage => Some("usage: shared_prover replay | place | check"),
-        Status::ReadFault => Some("the input could not be read"),
-        Status::OutOfMemory => Some("out of memory"),
-        Status::TooLong => Some("the input is longer than 201326592 bytes"),
-        Status::Done | Status::Refused | Status::Script | Status::WriteFault => None,
-    }
+    args.collect(rt.alloc()).map_err(|_| Status::OutOfMemory)
 }

@@ -1,10 +1,8 @@
 ghost use Rattle.std.specs.Prelude.{◌≡◌};
 
+use crate::limits::TRIES;
 use crate::stream::{Failed, Sink, Source};
 use std::io::{ErrorKind, Read, Write};
-
-// How often a call that a signal interrupted is tried.
-const TRIES: u32 = 65_536;
 
 /// A reader of std. What is left is told where the reader tells it, so not over a real stream.
 #[derive(Drop)]

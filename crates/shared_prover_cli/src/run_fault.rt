@@ -17,11 +17,11 @@ pub enum RunFault {
     /// The last state or the stop pointers, by the number of the test.
     End(u32),
     /// The range span has no range cell at this index.
-    Range(u64),
+    Range(u32),
     /// The group of twenty cells of this number isn't a whole instance of the hash span.
-    Hash(u64),
+    Hash(u32),
     /// The state of this number does not lead to the one after it.
     Row(u32, RowCause),
     /// The output span has no cell at this index.
-    Output(u64),
+    Output(u32),
 }

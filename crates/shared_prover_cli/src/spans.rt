@@ -1,7 +1,8 @@
 ghost use Rattle.std.specs.Prelude.{◌≡◌, ◌+◌, ◌-◌, ◌<◌, option_map};
+ghost use Rattle.cairo_model.specs.Machine.FieldMemories.{AddressesRise};
 ghost use Rattle.goldi_field.specs.Numbers.{prime};
-ghost use Rattle.shared_prover_cli.specs.RunFaults.{spans_fault as fault_of_spans};
-ghost use Rattle.shared_prover_cli.specs.SpanFaults.{first_bad, group_count as groups_between, has_instance, has_range_cell, is_in_range as range_test, is_instance as instance_test, is_instance_at as instance_test_at, numbers_from};
+ghost use Rattle.shared_prover_cli.specs.Working.RunFaults.{spans_fault as fault_of_spans};
+ghost use Rattle.shared_prover_cli.specs.Working.SpanFaults.{first_bad, group_count as groups_between, has_instance, has_range_cell, is_in_range as range_test, is_instance as instance_test, is_instance_at as instance_test_at, numbers_from};
 
 use crate::run_fault::RunFault;
 use builtin_hash::check_instance;
@@ -16,13 +17,22 @@ const INSTANCE_CELLS: u64 = 20;
 pub fn spans_fault(cert: &Cert) -> Option<RunFault>
     ensures { result ≡ fault_of_spans cert.now }
 {
+    cells_rise(&cert.cells);
     if let Some(index) = bad_range_cell(&cert.cells, cert.range.start, cert.range.stop) {
-        return Some(RunFault::Range(index));
+        return Some(RunFault::Range(index as u32));
     }
     match bad_instance(&cert.cells, cert.hash.start, cert.hash.stop) {
-        Some(index) => Some(RunFault::Hash(index)),
+        Some(index) => Some(RunFault::Hash(index as u32)),
         None => None,
     }
+}
+
+/// A law for callers' proofs, which does nothing when it runs: the addresses of cells rise, so an index whose like before it all
+/// have cells is no greater than their number.
+pub fn cells_rise(cells: &Cells)
+    ensures { AddressesRise cells.now }
+{
+    let _ = cells.as_slice();
 }
 
 // The first index of a span at which there is no range cell.

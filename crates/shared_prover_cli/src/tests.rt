@@ -26,7 +26,7 @@ fn answers_whatever_the_pieces(rt: HostRuntime) -> Result<(), Fail> {
         let input = decode(rt.alloc(), FIVE)?;
         let mut source = MemSource::new(input, gives, Vec::new(rt.alloc()));
         let mut sink = MemSink::new(rt.alloc(), 100, takes, Vec::new(rt.alloc()))?;
-        let status = run_plain(rt.alloc(), &rt, words.as_slice(), &mut source, &mut sink);
+        let status = run_plain(&rt, rt.alloc(), words.as_slice(), &mut source, &mut sink);
         assert_eq!(rt; status, Status::Done);
         assert_eq!(rt; sink.bytes(), line.as_slice());
     }
@@ -40,7 +40,7 @@ fn a_failing_read_writes_nothing(rt: HostRuntime) -> Result<(), Fail> {
         let input = b"hello".to_vec(rt.alloc())?;
         let mut source = MemSource::new(input, 1, [failing].to_vec(rt.alloc())?);
         let mut sink = MemSink::new(rt.alloc(), 100, 100, Vec::new(rt.alloc()))?;
-        let status = run_plain(rt.alloc(), &rt, words.as_slice(), &mut source, &mut sink);
+        let status = run_plain(&rt, rt.alloc(), words.as_slice(), &mut source, &mut sink);
         assert_eq!(rt; status.number(), 4);
         assert!(rt; sink.bytes().is_empty());
     }
@@ -53,7 +53,7 @@ fn a_failing_write_leaves_a_beginning(rt: HostRuntime) -> Result<(), Fail> {
     for (room, failing, held) in [(100, 2, b"ad".as_slice()), (100, 1, b""), (3, 9, b"adm")] {
         let mut source = SureSource::new(decode(rt.alloc(), FIVE)?);
         let mut sink = MemSink::new(rt.alloc(), room, 2, [failing].to_vec(rt.alloc())?)?;
-        let status = run_plain(rt.alloc(), &rt, words.as_slice(), &mut source, &mut sink);
+        let status = run_plain(&rt, rt.alloc(), words.as_slice(), &mut source, &mut sink);
         assert_eq!(rt; status.number(), 5);
         assert_eq!(rt; sink.bytes(), held);
     }
@@ -73,8 +73,8 @@ fn other_words_are_usage(rt: HostRuntime) -> Result<(), Fail> {
         let words = words_of(rt.alloc(), texts)?;
         let mut source = SureSource::new(b"hello".to_vec(rt.alloc())?);
         let status = run_plain(
-            rt.alloc(),
             &rt,
+            rt.alloc(),
             words.as_slice(),
             &mut source,
             &mut SureSink::new(),

@@ -3,6 +3,7 @@ ghost use Rattle.std.specs.Io.KnownBytes.{Appends};
 ghost use Rattle.shared_prover_cli.specs.Faults.{HasCause, Rose};
 ghost use Rattle.shared_prover_cli.specs.WholeStreams.{AppendsPart, ConsumesAll, ConsumesAtMost, ConsumesMoreThan};
 
+use crate::limits::READ_BYTES;
 use crate::stream::{Failed, Sink, Source};
 use std::alloc::{AllocError, Global};
 
@@ -34,9 +35,6 @@ impl From<Failed> for InputFault {
     }
 }
 
-// The bytes that one read has room for.
-const PIECE: usize = 65_536;
-
 /// All that is left of a source, where it has at most `limit` bytes.
 pub fn read_whole<S: Source>(
     alloc: Global,
@@ -55,7 +53,7 @@ pub fn read_whole<S: Source>(
     ensures faults { S.faults source.old ≤ S.faults source.new }
 {
     let mut bytes = Vec::new(alloc);
-    let mut piece = zeros(alloc, PIECE)?;
+    let mut piece = zeros(alloc, READ_BYTES)?;
     loop {
         let count = source.read(piece.as_mut_slice())?;
         if count == 0 {

@@ -1,7 +1,7 @@
 use Rattle.std.proofs.Common.{◌≡◌, map, drop}
-use Rattle.cairo_model.specs.FieldMemories.{cell_at}
-use Rattle.cairo_model.specs.Views.{field_registers}
-use Rattle.shared_prover_cli.specs.RunFaults.{row_fault}
+use Rattle.cairo_model.specs.Machine.FieldMemories.{cell_at}
+use Rattle.cairo_model.specs.Views.Machine.{field_registers}
+use Rattle.shared_prover_cli.specs.Working.RunFaults.{row_fault}
 use Rattle.shared_prover_cli.proofs.checking.bad_row.Given as goal
 
 abbrev pub invariant-loop-number : goal.invariant-loop-number

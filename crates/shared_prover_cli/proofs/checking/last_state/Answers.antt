@@ -1,6 +1,6 @@
 use Rattle.std.proofs.Common.{◌<◌, length, sym, ap, ◌∙◌, arith}
 use Rattle.std.proofs.lemmas.Bool.Decides.{nat_tests}
-use Rattle.cairo_model.specs.Views.{field_registers}
+use Rattle.cairo_model.specs.Views.Machine.{field_registers}
 use Rattle.shared_prover_cli.proofs.CheckLemmas.{last_in}
 use Rattle.shared_prover_cli.proofs.checking.last_state.Goals as goal
 

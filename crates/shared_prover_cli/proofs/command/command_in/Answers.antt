@@ -1,9 +1,16 @@
-use Rattle.std.proofs.Common.{arith, rules}
+use Rattle.std.proofs.Common.{◌≡◌, ℕ, List, [], ◌∷◌, arith, map, ap, subst, sym, ◌∙◌}
+use Rattle.std.specs.Prelude.{IfNone, IfSome, string_bytes}
+use Rattle.shared_prover_cli.specs.Commands.{IsPlainCommand, row_of}
+use Rattle.shared_prover_cli.specs.declared.command.Command.{Command}
 use Rattle.shared_prover_cli.proofs.WordLemmas.{map-one_word}
 use Rattle.shared_prover_cli.proofs.command.command_in.Goals as goal
 
 -- the only word is the whole list
 pub returns-in-len1 : goal.returns-in-len1
 returns-in-len1 c =
-    let whole = map-one_word c.args.words.now c.word-item.result (omega arith) (omega arith) c.word-item.is in
-    rw whole (search rules)
+    let whole : c.as_str.result.now ∷ [] ≡ map string_bytes c.args.words.now =
+    ap (λ (w : List ℕ). w ∷ []) c.as_str.ensures.value ∙ sym (map-one_word c.args.words.now c.word-item.result (omega arith) (omega arith) c.word-item.is) in
+    record {
+      found = subst (λ (ws : List (List ℕ)). IfSome c.command_named.result (λ command. (row_of command).asked_by ws)) whole c.command_named.ensures.found;
+      none = subst (λ (ws : List (List ℕ)). IfNone c.command_named.result ((command : Command) → IsPlainCommand command → ¬ ((row_of command).asked_by ws))) whole c.command_named.ensures.none;
+    }

@@ -1,5 +1,5 @@
 use Rattle.std.proofs.Common.{◌≡◌, true, sym, ◌∙◌, arith}
-use Rattle.shared_prover_cli.specs.SpanFaults.{has_instance}
+use Rattle.shared_prover_cli.specs.Working.SpanFaults.{has_instance}
 use Rattle.shared_prover_cli.proofs.FirstBad.{goes_on}
 use Rattle.shared_prover_cli.proofs.spans.bad_instance.Goals as goal
 

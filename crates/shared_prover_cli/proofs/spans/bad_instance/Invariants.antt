@@ -1,5 +1,5 @@
 use Rattle.std.proofs.Common.{◌≡◌, ◌-◌}
-use Rattle.shared_prover_cli.specs.SpanFaults.{first_bad, has_instance}
+use Rattle.shared_prover_cli.specs.Working.SpanFaults.{first_bad, has_instance}
 use Rattle.shared_prover_cli.proofs.spans.bad_instance.Given as goal
 
 abbrev pub invariant-loop-index : goal.invariant-loop-index

@@ -1,6 +1,6 @@
 use Rattle.std.proofs.Common.{◌≡◌, ℕ, true, sym, ap, ◌∙◌, arith}
-use Rattle.cairo_model.specs.FieldMemories.{cell_at}
-use Rattle.shared_prover_cli.specs.SpanFaults.{has_range_cell, is_in_range}
+use Rattle.cairo_model.specs.Machine.FieldMemories.{cell_at}
+use Rattle.shared_prover_cli.specs.Working.SpanFaults.{has_range_cell, is_in_range}
 use Rattle.shared_prover_cli.proofs.FirstBad.{at_distance, goes_on_above}
 use Rattle.shared_prover_cli.proofs.spans.bad_range_cell.Goals as goal
 

@@ -1,5 +1,5 @@
 use Rattle.std.proofs.Common.{◌≡◌, ◌-◌}
-use Rattle.shared_prover_cli.specs.SpanFaults.{first_bad, has_range_cell}
+use Rattle.shared_prover_cli.specs.Working.SpanFaults.{first_bad, has_range_cell}
 use Rattle.shared_prover_cli.proofs.spans.bad_range_cell.Given as goal
 
 abbrev pub invariant-loop-address : goal.invariant-loop-address

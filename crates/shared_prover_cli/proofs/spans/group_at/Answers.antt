@@ -1,5 +1,5 @@
 use Rattle.std.proofs.Common.{◌≡◌, ◌<◌, ◌+◌, None, sym, ap, ◌∙◌, arith}
-use Rattle.cairo_model.specs.FieldMemories.{cell_at}
+use Rattle.cairo_model.specs.Machine.FieldMemories.{cell_at}
 use Rattle.shared_prover_cli.proofs.InstanceLaws.{number_absent, numbers_told}
 use Rattle.shared_prover_cli.proofs.spans.group_at.Goals as goal
 

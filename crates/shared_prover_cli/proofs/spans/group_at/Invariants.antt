@@ -1,5 +1,5 @@
 use Rattle.std.proofs.Common.{◌≡◌, ◌+◌, ◌<◌, ℕ, length, slice_index, Some}
-use Rattle.cairo_model.specs.FieldMemories.{cell_at}
+use Rattle.cairo_model.specs.Machine.FieldMemories.{cell_at}
 use Rattle.shared_prover_cli.proofs.spans.group_at.Given as goal
 
 abbrev pub invariant-loop-place : goal.invariant-loop-place

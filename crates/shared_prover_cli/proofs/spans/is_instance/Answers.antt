@@ -1,5 +1,5 @@
 use Rattle.std.proofs.lemmas.Bool.Decides.{same_from_decides}
-use Rattle.shared_prover_cli.specs.SpanFaults.{is_instance}
+use Rattle.shared_prover_cli.specs.Working.SpanFaults.{is_instance}
 use Rattle.shared_prover_cli.proofs.InstanceLaws.{decides_instance}
 use Rattle.shared_prover_cli.proofs.spans.is_instance.Goals as goal
 

@@ -1,0 +1,4 @@
+pub mod Replies
+pub mod RunFaults
+pub mod SpanFaults
+pub mod Writings
