@@ -1,0 +1,38 @@
+#!/usr/bin/env python3
+"""Times `check` beside plain Rust in one run, and prints a table for docs/BENCHMARK.md.
+
+Usage: beside.py PLAIN SMALL FILE [FILE ..]    (at the repository's top, after the program is built)
+
+PLAIN is docs/bench/plain_check.rs, compiled. Each file is a certificate, given to both in turn forty times; the least processor
+time of each counts (user and system), less that over SMALL, a certificate of a few rows, which is the price of a process.
+"""
+import os
+import subprocess
+import sys
+
+OURS = ["crates/shared_prover_cli/out/shared_prover_cli", "check"]
+
+
+def processor_time(command, path):
+    with open(path, "rb") as source:
+        process = subprocess.Popen(command, stdin=source, stdout=subprocess.DEVNULL)
+        _, status, used = os.wait4(process.pid, 0)
+        process.returncode = os.waitstatus_to_exitcode(status)
+    return used.ru_utime + used.ru_stime
+
+
+def main():
+    plain, small, paths = [sys.argv[1]], sys.argv[2], sys.argv[3:]
+    print("| File | `check` (ms) | Plain Rust (ms) | Ratio |")
+    print("|---|---|---|---|")
+    for path in paths:
+        least = {}
+        for _ in range(40):
+            for name, command, given in (("ours", OURS, path), ("plain", plain, path), ("a", OURS, small), ("b", plain, small)):
+                spent = processor_time(command, given)
+                least[name] = min(spent, least.get(name, spent))
+        ours, theirs = least["ours"] - least["a"], least["plain"] - least["b"]
+        print(f"| {os.path.basename(path)} | {ours * 1000:.2f} | {theirs * 1000:.2f} | {ours / theirs:.2f} |")
+
+
+main()
