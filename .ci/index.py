@@ -25,7 +25,7 @@ LIMITS = r"65[_]?536|2[_]?097[_]?152|201[_]?326[_]?592|262[_]?144|2[_]?147[_]?48
 # Where the numbers of segments stand in definitions.
 SEGMENTS = r"\bplace [0-7] |\bsegment_size pie [0-7]\b|\bvalue_at (?:pie\.)?cells [0-7]\b|\bHoldsNumbers \S+ [0-7] "
 # Files that give limits and segments their names, and worked examples.
-NAMING = re.compile(r"(^|/)([Ll]imits|[Ss]egments|tests|vectors|\w+_tests)\.(rt|antt)$")
+NAMING = re.compile(r"(^|/)([Ll]imits|[Ss]egments|tests|vectors|\w+_tests)\.(rt|antt)$|/worked_examples/")
 
 WORD = re.compile(r"[^\s(){}\[\],;:`]+")
 HEAD = re.compile(r"^ *(?:(?:abbrev|unfoldable) pub|pub (?:record|data)|pub)\s+(?!mod\b|use\b)([^\s({:]+)")

@@ -13,6 +13,3 @@ pub use batch_layout::BatchLayout;
 pub use cutting::cut;
 pub use laws::{plans_by_hand, plans_hold};
 pub use planning::plan;
-
-#[cfg(test)]
-mod tests;

@@ -16,6 +16,3 @@ pub use laws::{
 pub use parcel::Parcel;
 pub use run_fault::{RowCause, RunFault};
 pub use words::{BOOT, BOOT_CALLS, BOOT_END, boot_words};
-
-#[cfg(test)]
-mod tests;

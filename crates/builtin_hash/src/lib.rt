@@ -9,6 +9,3 @@ mod programs;
 pub use crate::chains::chain;
 pub use crate::instances::{CELLS_PER_INSTANCE, check_instance, instance};
 pub use crate::programs::{HASH_DIGITS, ProgramHash, program_hash};
-
-#[cfg(test)]
-mod tests;

@@ -23,6 +23,3 @@ pub fn check_cells(cells: &[u64]) -> Result<(), usize>
         Some(index) => Err(index),
     }
 }
-
-#[cfg(test)]
-mod tests;

@@ -58,6 +58,3 @@ pub use texts::{
 };
 pub use value::Value;
 pub use value_sums::{add, is_zero, mul, sub};
-
-#[cfg(test)]
-mod tests;

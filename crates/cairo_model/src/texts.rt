@@ -8,6 +8,3 @@ mod refusals;
 pub use facts::put_fact;
 pub use numbers::{number_of_fault, put_decimal, put_number, put_numbers, put_pair, put_value};
 pub use refusals::{put_refusal, put_replay_refusal};
-
-#[cfg(test)]
-mod tests;

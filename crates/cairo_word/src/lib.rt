@@ -8,6 +8,3 @@ mod word;
 pub use decoding::{decode, size};
 pub use encoding::{encode, fields_determine_word};
 pub use word::{Instruction, Reg, WordFault};
-
-#[cfg(test)]
-mod tests;

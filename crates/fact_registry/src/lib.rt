@@ -3,8 +3,6 @@
 
 mod laws;
 mod registry;
-#[cfg(test)]
-mod tests;
 
 pub use laws::registered_facts;
 pub use registry::Registry;

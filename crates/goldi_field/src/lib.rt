@@ -92,6 +92,3 @@ impl Felt {
         power
     }
 }
-
-#[cfg(test)]
-mod tests;

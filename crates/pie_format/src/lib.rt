@@ -8,8 +8,6 @@ mod metadata;
 mod metadata_rules;
 mod metadata_writing;
 mod reading;
-#[cfg(test)]
-mod tests;
 mod writing;
 
 pub use laws::{file_or_cause, one_first_read_cause, one_pie, pie_has_no_cause};

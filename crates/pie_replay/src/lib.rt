@@ -15,6 +15,3 @@ pub use acceptance::replay;
 pub use admission::admit;
 pub use laws::{accepted_has_no_cause, one_first_replay_cause, one_verdict};
 pub use value_step::step_value;
-
-#[cfg(test)]
-mod tests;

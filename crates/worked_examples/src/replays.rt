@@ -1,9 +1,9 @@
 ghost use Rattle.std.specs.Prelude.{◌<◌};
 
-use crate::{replay, step_value};
 use cairo_model::{Place, Shape, State, Value};
 use hex::decode;
 use pie_format::read;
+use pie_replay::{replay, step_value};
 use seg_memory::SegMemory;
 use std::test::Fail;
 

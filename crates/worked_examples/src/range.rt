@@ -1,4 +1,4 @@
-use super::*;
+use builtin_range::*;
 
 #[test]
 fn range_cells_end_below_two_to_the_32(rt: HostRuntime) {

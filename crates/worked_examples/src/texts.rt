@@ -1,14 +1,5 @@
-use super::*;
-use crate::fact::Fact;
-use crate::fault::StepFault;
-use crate::felts::felt_of;
-use crate::outputs::Outputs;
-use crate::place::Place;
-use crate::read_refusal::ReadRefusal;
-use crate::refusal::Refusal;
-use crate::replay_refusal::ReplayRefusal;
-use crate::value::Value;
 use builtin_hash::program_hash;
+use cairo_model::*;
 use std::test::Fail;
 
 #[test]

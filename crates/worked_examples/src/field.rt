@@ -1,6 +1,6 @@
 //! The expected numbers were computed by Python.
 
-use crate::{Felt, PRIME};
+use goldi_field::{Felt, PRIME};
 
 fn felt(n: u64) -> Felt {
     Felt::new(n).unwrap_or(Felt::ZERO)

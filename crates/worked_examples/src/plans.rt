@@ -1,4 +1,4 @@
-use super::*;
+use batch_plan::*;
 use cairo_model::Shape;
 
 const EMPTY: Shape = Shape { steps: 4, size: 12 };

@@ -1,5 +1,5 @@
-use super::*;
 use builtin_hash::{ProgramHash, program_hash};
+use cairo_model::*;
 use goldi_field::Felt;
 use std::cmp::Ordering;
 use std::hash::{DefaultHasher, Hash, Hasher};

@@ -1,6 +1,6 @@
 //! The expected fields and faults were computed by a Python program from the table of bits.
 
-use crate::{Reg, WordFault, decode, encode, size};
+use cairo_word::{Reg, WordFault, decode, encode, size};
 
 #[test]
 fn words_of_statements(rt: HostRuntime) {

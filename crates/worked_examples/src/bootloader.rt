@@ -1,4 +1,4 @@
-use super::*;
+use boot_program::*;
 use builtin_hash::{ProgramHash, program_hash};
 
 // The hash was made by a program that shares nothing with this one.

@@ -1,6 +1,6 @@
-use crate::Registry;
 use builtin_hash::program_hash;
 use cairo_model::{Fact, Outputs, felt_of};
+use fact_registry::Registry;
 use std::alloc::{AllocError, Global};
 use std::test::Fail;
 

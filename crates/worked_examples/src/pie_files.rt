@@ -1,8 +1,8 @@
 //! The file of a program that copies its three pointers and returns was made by a program that shares nothing with this
 //! one, and the refusals of its changed copies follow from the table of docs/PIE.md.
 
-use crate::{read, write};
 use cairo_model::{End, ReadRefusal};
+use pie_format::{read, write};
 use std::alloc::{AllocError, Global};
 use std::test::Fail;
 
