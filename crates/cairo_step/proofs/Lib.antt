@@ -1,0 +1,5 @@
+pub mod Words
+pub mod Flags
+pub mod Cased
+pub mod Steps
+pub mod Equated

@@ -1,1 +1,4 @@
 pub mod FieldFaults
+pub mod Equations
+pub mod Laws
+pub mod Working

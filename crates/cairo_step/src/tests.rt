@@ -3,7 +3,7 @@
 ghost use Rattle.std.specs.Prelude.{map, OnOk};
 ghost use Rattle.cairo_model.specs.Machine.FieldMemories.{AddressesRise, field_cell};
 
-use crate::step;
+use crate::{row_holds, step};
 use cairo_model::{Cells, FieldState, StepFault, felt_of};
 use goldi_field::Felt;
 use std::alloc::{AllocError, Global};
@@ -51,35 +51,92 @@ fn add_cell(cells: &mut Vec<(Felt, Felt)>, address: Felt, value: Felt) -> Result
     Ok(())
 }
 
-fn five_in_memory(alloc: Global) -> Result<Cells, AllocError> {
+fn memory_of(alloc: Global, list: &[(u32, u64)]) -> Result<Cells, AllocError> {
     let mut cells: Vec<(Felt, Felt)> = Vec::new(alloc);
-    for (address, number) in CELLS {
-        if let Some(value) = Felt::new(number) {
-            add_cell(&mut cells, felt_of(address), value)?;
+    for (address, number) in list {
+        if let Some(value) = Felt::new(*number) {
+            add_cell(&mut cells, felt_of(*address), value)?;
         }
     }
     Ok(Cells::of(cells))
 }
 
+const STATES: [(u32, u32, u32); 7] = [
+    (1, 15, 15),
+    (3, 16, 15),
+    (4, 16, 15),
+    (6, 17, 15),
+    (7, 18, 15),
+    (8, 19, 15),
+    (25, 19, 24),
+];
+
+fn state_at(index: usize) -> FieldState {
+    match STATES.get(index) {
+        Some((pc, ap, fp)) => state(*pc, *ap, *fp),
+        None => state(0, 0, 0),
+    }
+}
+
 #[test]
 fn each_state_of_a_placed_run_steps_to_the_next(rt: HostRuntime) -> Result<(), Fail> {
-    let memory = five_in_memory(rt.alloc())?;
-    let states = [
-        state(1, 15, 15),
-        state(3, 16, 15),
-        state(4, 16, 15),
-        state(6, 17, 15),
-        state(7, 18, 15),
-        state(8, 19, 15),
-        state(25, 19, 24),
-    ];
+    let memory = memory_of(rt.alloc(), &CELLS)?;
     for index in 0..6 {
+        let next = state_at(index + 1);
+        let FieldState { pc, ap, fp } = next;
+        assert_eq!(rt; step(&memory, state_at(index)), Ok(next), "at {index}");
+        assert!(rt; row_holds(&memory, state_at(index), next), "at {index}");
+        for miss in [
+            FieldState {
+                pc: pc.add(Felt::ONE),
+                ap,
+                fp,
+            },
+            FieldState {
+                pc,
+                ap: ap.add(Felt::ONE),
+                fp,
+            },
+            FieldState {
+                pc,
+                ap,
+                fp: fp.add(Felt::ONE),
+            },
+        ] {
+            assert!(rt;
+                !row_holds(&memory, state_at(index), miss),
+                "beside {index}"
+            );
+        }
+    }
+    assert_eq!(rt; step(&memory, state_at(6)), Err(StepFault::Fetch));
+    assert!(rt; !row_holds(&memory, state_at(6), state(26, 19, 24)));
+    Ok(())
+}
+
+#[test]
+fn rows_of_conditional_jumps_and_calls(rt: HostRuntime) -> Result<(), Fail> {
+    let falls = [(1, 0x0a0680017fff8000), (2, 7), (14, 3), (20, 0)];
+    let jumps = [(1, 0x0a0680017fff8000), (2, 7), (14, 3), (20, 5)];
+    let mixes = [(1, 0x060680017fff8000), (2, 7), (14, 3), (20, 0)];
+    let calls = [(1, 0x1104800180018000), (2, 7), (20, 15), (21, 3)];
+    let strays = [(1, 0x1104800180018000), (2, 7), (20, 15), (21, 4)];
+    for (cells, (pc, ap, fp), holds) in [
+        (falls, (3, 21, 15), true),
+        (falls, (8, 21, 15), false),
+        (jumps, (8, 21, 15), true),
+        (jumps, (3, 21, 15), false),
+        (mixes, (3, 27, 15), false),
+        (calls, (8, 22, 22), true),
+        (calls, (8, 22, 15), false),
+        (strays, (8, 22, 22), false),
+    ] {
+        let memory = memory_of(rt.alloc(), &cells)?;
         assert_eq!(rt;
-            step(&memory, states[index]),
-            Ok(states[index + 1]),
-            "at {index}"
+            row_holds(&memory, state(1, 20, 15), state(pc, ap, fp)),
+            holds,
+            "at {pc}"
         );
     }
-    assert_eq!(rt; step(&memory, states[6]), Err(StepFault::Fetch));
     Ok(())
 }
