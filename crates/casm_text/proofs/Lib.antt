@@ -20,3 +20,16 @@ pub mod Putting
 pub mod Recognizing
 pub mod Walking
 pub mod LongestTokens
+pub mod DigitValues
+pub mod KnownLines
+pub mod Settings
+pub mod Fitting
+pub mod KeptSettings
+pub mod ResolvedWords
+pub mod RangesOfLines
+pub mod Causes
+pub mod Surveying
+pub mod CheckingLabels
+pub mod WritingWords
+pub mod FewTokens
+pub mod Deciding

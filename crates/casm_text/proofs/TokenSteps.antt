@@ -1,7 +1,7 @@
 -- One byte on, in the loop over a line's bytes.
-use Rattle.casm_text.specs.Working.Tokenizing.{goes_on, whole_token, begun_after, ended_at, tokens_after}
+use Rattle.casm_text.specs.Working.Tokenizing.{most_tokens, goes_on, whole_token, begun_after, ended_at, tokens_after}
 use Rattle.std.proofs.Common.{◌≡◌, ℕ, ◌+◌, ◌-◌, ◌<◌, ◌≤◌, ◌==◌, Bool, true, false, List, [], ◌∷◌, ◌++◌, length, take, drop, get_or, refl, ap, sym, ◌∙◌, arith, cond}
-use Rattle.std.proofs.lemmas.List.{append_assoc, append-nil, drop_more, take_more, get_or-drop, length-drop}
+use Rattle.std.proofs.lemmas.List.{append_assoc, append-nil, drop_more, take_more, get_or-drop, length-append, length-drop, take_all, take-append-le}
 
 -- the token begun in code at start, before i
 abbrev pub begun_in : List ℕ → ℕ → ℕ → List ℕ
@@ -73,3 +73,25 @@ step_end code found start i kept inside off =
           ∙ (ap (λ (e : List (List ℕ)). (found ++ e) ++ tokens_after (begun_after (begun_in code start i) (get_or code i 0)) (drop (i + 1) code)) (sym ends)
           ∙ told);
     }
+
+-- ---- how many tokens are kept
+
+-- as `Kept`, with few tokens found
+pub record KeptFew (code : List ℕ) (found : List (List ℕ)) (start i : ℕ) : Type 0 where
+  pub kept : Kept code found start i
+  pub few : length found ≤ most_tokens
+
+one_at_most : (begun : List ℕ) → length (whole_token begun) ≤ 1
+one_at_most [] = omega arith
+one_at_most (c ∷ cs) = omega arith
+
+pub few_more : (found : List (List ℕ)) (begun : List ℕ) → length (found ++ whole_token begun) ≤ length found + 1
+few_more found begun = omega (arith, length-append found (whole_token begun), one_at_most begun)
+
+-- so many tokens are the first ones
+pub first_tokens : (found rest all : List (List ℕ)) → found ++ rest ≡ all → length found ≡ most_tokens + 1 → found ≡ take (most_tokens + 1) all
+first_tokens found rest all told count =
+    sym (take_all (most_tokens + 1) found (omega (arith, count))) ∙ (sym (take-append-le (most_tokens + 1) found rest (omega (arith, count))) ∙ ap (λ (ts : List (List ℕ)). take (most_tokens + 1) ts) told)
+
+pub all_tokens : (found all : List (List ℕ)) → found ≡ all → length found ≤ most_tokens + 1 → found ≡ take (most_tokens + 1) all
+all_tokens found all told count = sym (take_all (most_tokens + 1) found count) ∙ ap (λ (ts : List (List ℕ)). take (most_tokens + 1) ts) told

@@ -4,19 +4,15 @@ use Rattle.cairo_model.specs.Refusals.FirstFailing.{IsFirstCause, IsFirstFailing
 use Rattle.cairo_model.specs.Limits.{most_cells}
 use Rattle.casm_text.specs.Tokens.{lines_of}
 use Rattle.casm_text.specs.Words.{Second, number, distance, statement_numbers, statement_fits}
+use Rattle.casm_text.specs.declared.refusal.AsmRefusal.{AsmRefusal}
+use Rattle.casm_text.specs.declared.refusal.AsmRefusal.TheVariants.{Syntax, Label, Range}
 use Rattle.casm_text.specs.Lines.{Line, empty_line, label_line, statement_line, IsLine, AreLines, GivesCode, line_size, offset_at}
 
--- the number of the line, counted from 1
-pub data AsmCause : Type 0 where
-  syntax : ℕ → AsmCause
-  label : ℕ → AsmCause
-  range : ℕ → AsmCause
-
 -- the number of a refusal
-abbrev pub asm_number : AsmCause → ℕ
-asm_number (syntax line) = 1
-asm_number (label line) = 2
-asm_number (range line) = 3
+abbrev pub asm_number : AsmRefusal → ℕ
+asm_number (Syntax line) = 1
+asm_number (Label line) = 2
+asm_number (Range line) = 3
 
 -- line number i + 1 of the text is a line of the grammar
 abbrev pub HasLine : List (List ℕ) → ℕ → Type 0
@@ -53,13 +49,13 @@ abbrev pub IsFirstBadLine : ℕ → (ℕ → Type 0) → ℕ → Type 0
 IsFirstBadLine count Good n = (i : ℕ) × (n ≡ suc i) × IsFirstFailing (λ k. k < count) Good i
 
 -- the cause applies, whichever others do
-abbrev pub IsAsmCause : List ℕ → AsmCause → Type 0
-IsAsmCause text (syntax n) = IsFirstBadLine (length (lines_of text)) (HasLine (lines_of text)) n
-IsAsmCause text (label n) = (lines : List Line) × AreLines (lines_of text) lines × IsFirstBadLine (length lines) (λ i. HasGoodLabels lines i (line_at lines i)) n
-IsAsmCause text (range n) = (lines : List Line) × AreLines (lines_of text) lines × IsFirstBadLine (length lines) (λ i. HasGoodRange lines i (line_at lines i)) n
+abbrev pub IsAsmCause : List ℕ → AsmRefusal → Type 0
+IsAsmCause text (Syntax n) = IsFirstBadLine (length (lines_of text)) (HasLine (lines_of text)) n
+IsAsmCause text (Label n) = (lines : List Line) × AreLines (lines_of text) lines × IsFirstBadLine (length lines) (λ i. HasGoodLabels lines i (line_at lines i)) n
+IsAsmCause text (Range n) = (lines : List Line) × AreLines (lines_of text) lines × IsFirstBadLine (length lines) (λ i. HasGoodRange lines i (line_at lines i)) n
 
 -- the cause applies, and none of a lower number does
-abbrev pub IsFirstAsmCause : List ℕ → AsmCause → Type 0
+abbrev pub IsFirstAsmCause : List ℕ → AsmRefusal → Type 0
 IsFirstAsmCause text cause = IsFirstCause asm_number (IsAsmCause text) cause
 
 -- the text is of the grammar, keeps each rule, and gives this code
@@ -69,3 +65,10 @@ pub record Assembles (text words : List ℕ) (main : ℕ) : Type 0 where
   pub labels : (i : ℕ) → i < length lines → HasGoodLabels lines i (line_at lines i)
   pub ranges : (i : ℕ) → i < length lines → HasGoodRange lines i (line_at lines i)
   pub code : GivesCode lines words main
+
+-- the text is of the grammar, and keeps each rule
+pub record KeepsTextRules (text : List ℕ) : Type 0 where
+  pub lines : List Line
+  pub are_lines : AreLines (lines_of text) lines
+  pub labels : (i : ℕ) → i < length lines → HasGoodLabels lines i (line_at lines i)
+  pub ranges : (i : ℕ) → i < length lines → HasGoodRange lines i (line_at lines i)

@@ -4,3 +4,5 @@ pub mod Rendering
 pub mod Views
 pub mod PlainViews
 pub mod Writing
+pub mod Assembling
+pub mod Resolving

@@ -1,11 +1,13 @@
 ghost use Rattle.casm_text.specs.Listings.{Lists, BeginsWith, listing_text};
 ghost use Rattle.casm_text.specs.Lines.{Line, IsLine};
-ghost use Rattle.casm_text.specs.Refusals.{AsmCause, Assembles, IsAsmCause, IsFirstAsmCause, most_words};
+ghost use Rattle.casm_text.specs.Refusals.{Assembles, IsAsmCause, IsFirstAsmCause, KeepsTextRules, most_words};
 ghost use Rattle.casm_text.specs.Statements.{Statement};
 ghost use Rattle.goldi_field.specs.Numbers.{IsFelt};
 ghost use Rattle.casm_text.specs.Tokens.{AreTokens};
-ghost use Rattle.std.specs.Prelude.{ℕ, ◌≡◌, ◌≤◌, List, length};
+ghost use Rattle.std.specs.Prelude.{ℕ, ◌≡◌, ◌≤◌, ◌⊎◌, List, length};
 ghost use Rattle.std.specs.List.{AllByRecursion};
+
+use crate::refusal::AsmRefusal;
 
 /// A line has one list of tokens.
 pub fn one_token_list()
@@ -40,7 +42,7 @@ pub fn one_assembly()
 
 /// A text that assembles has no cause of a refusal.
 pub fn assembles_without_cause()
-    ensures { (text words : List ℕ) (main : ℕ) (cause : AsmCause) → Assembles text words main → ¬ IsAsmCause text cause }
+    ensures { (text words : List ℕ) (main : ℕ) (cause : AsmRefusal) → Assembles text words main → ¬ IsAsmCause text cause }
 {}
 
 /// Words have a listing.
@@ -50,11 +52,16 @@ pub fn listing_exists()
 
 /// At most one cause of a refusal is the first.
 pub fn one_first_cause()
-    ensures { (text : List ℕ) (c d : AsmCause) → IsFirstAsmCause text c → IsFirstAsmCause text d → c ≡ d }
+    ensures { (text : List ℕ) (c d : AsmRefusal) → IsFirstAsmCause text c → IsFirstAsmCause text d → c ≡ d }
 {}
 
 /// What a text assembles to is code: at most 65,536 words, each a field number.
 pub fn code_is_small()
     ensures count { (text words : List ℕ) (main : ℕ) → Assembles text words main → length words ≤ most_words }
     ensures felts { (text words : List ℕ) (main : ℕ) → Assembles text words main → AllByRecursion IsFelt words }
+{}
+
+/// Each text keeps the three rules, or has a first cause of a refusal.
+pub fn kept_or_refused()
+    ensures { (text : List ℕ) → KeepsTextRules text ⊎ ((cause : AsmRefusal) × IsFirstAsmCause text cause) }
 {}

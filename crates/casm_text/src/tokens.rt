@@ -1,12 +1,15 @@
 ghost use Rattle.casm_text.specs.Tokens.{before_comment as comment_cut, is_digit as digit_test, is_letter as letter_test, is_name_byte as name_byte_test, is_pair as pair_test};
-ghost use Rattle.casm_text.specs.Working.Tokenizing.{goes_on as goes_on_test, whole_token, tokens_after, tokens_of_line};
-ghost use Rattle.std.specs.Prelude.{◌≡◌, ◌<◌, ◌+◌, ◌^◌, ◌++◌, ◌==◌, IfOk, OnOk, map, if◌then◌else◌};
+ghost use Rattle.casm_text.specs.Working.Tokenizing.{most_tokens, goes_on as goes_on_test, whole_token, tokens_after, tokens_of_line};
+ghost use Rattle.std.specs.Prelude.{◌≡◌, ◌<◌, ◌+◌, ◌^◌, ◌++◌, ◌==◌, IfOk, OnOk, map, take, if◌then◌else◌};
 
 use std::alloc::{AllocError, Global};
 
-/// The tokens of a line, without its comment.
+// No statement has more tokens, so a line with one more is none, and the others need not be found.
+const MOST_TOKENS: usize = 20;
+
+/// The first tokens of a line, without its comment: all of them, or one more than a statement may have.
 pub(crate) fn tokens<'a>(alloc: Global, line: &'a [u8]) -> Result<Vec<&'a [u8]>, AllocError>
-    ensures { IfOk result (λ found. map (λ t. t.now) found.items ≡ tokens_of_line line.now) }
+    ensures { IfOk result (λ found. map (λ t. t.now) found.items ≡ take (most_tokens + 1) (tokens_of_line line.now)) }
 {
     let code = before_comment(line);
     let mut found = Vec::new(alloc);
@@ -15,6 +18,9 @@ pub(crate) fn tokens<'a>(alloc: Global, line: &'a [u8]) -> Result<Vec<&'a [u8]>,
     while i < code.len() {
         if !goes_on(&code[start..i], code[i]) {
             end_token(&mut found, &code[start..i])?;
+            if found.len() > MOST_TOKENS {
+                return Ok(found);
+            }
             start = next_start(code[i], i);
         }
         i += 1;

@@ -28,3 +28,7 @@ tokens_after begun (c ∷ cs) = ended_at begun c ++ tokens_after (begun_after be
 -- the tokens of a line
 abbrev pub tokens_of_line : List ℕ → List (List ℕ)
 tokens_of_line line = tokens_after [] (before_comment line)
+
+-- no statement has more tokens
+abbrev pub most_tokens : ℕ
+most_tokens = 20
