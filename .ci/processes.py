@@ -77,6 +77,8 @@ def try_boot():
     """`boot` prints the words whatever its standard input is, and reads none of it."""
     lines = boot_lines()
     expect("the lines of the bootloader", (lines.count(b"\n"), len(lines)), (117, 2349))
+    with open(os.path.join(TOP, "crates/worked_examples/src/boot_text.rt"), "rb") as file:
+        expect("the text in a test is the example's", b'"' + example("boot.casm") + b'"' in file.read(), True)
     expect("boot", run(["boot"]), (0, lines, b""))
     expect("boot with its input closed", run(["boot"], stdin=None, preexec_fn=lambda: os.close(0)), (0, lines, b""))
     source = os.open(EXAMPLES, os.O_RDONLY)

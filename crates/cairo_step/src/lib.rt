@@ -5,8 +5,6 @@ mod field_step;
 mod laws;
 mod row;
 mod split;
-#[cfg(test)]
-mod tests;
 
 pub use field_step::step;
 pub use laws::equations_are_steps;

@@ -29,7 +29,3 @@ pub use laws::{
 pub use lister::listing;
 pub use refusal::AsmRefusal;
 
-#[cfg(test)]
-mod assembler_tests;
-#[cfg(test)]
-mod tests;

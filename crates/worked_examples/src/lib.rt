@@ -3,11 +3,17 @@
 #![tactic(auto)]
 
 #[cfg(test)]
+mod assembly;
+#[cfg(test)]
+mod boot_text;
+#[cfg(test)]
 mod bootloader;
 #[cfg(test)]
 mod field;
 #[cfg(test)]
 mod hash;
+#[cfg(test)]
+mod listings;
 #[cfg(test)]
 mod model;
 #[cfg(test)]
@@ -20,6 +26,8 @@ mod range;
 mod registry;
 #[cfg(test)]
 mod replays;
+#[cfg(test)]
+mod steps;
 #[cfg(test)]
 mod texts;
 #[cfg(test)]

@@ -3,8 +3,8 @@
 ghost use Rattle.std.specs.Prelude.{map, OnOk};
 ghost use Rattle.cairo_model.specs.Machine.FieldMemories.{AddressesRise, field_cell};
 
-use crate::{row_holds, step};
 use cairo_model::{Cells, FieldState, StepFault, felt_of};
+use cairo_step::{row_holds, step};
 use goldi_field::Felt;
 use std::alloc::{AllocError, Global};
 use std::test::Fail;

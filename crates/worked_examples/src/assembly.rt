@@ -1,7 +1,7 @@
 //! The texts and words of the first test, and the first refusals, are worked examples; the rest follows from the rules.
 
-use crate::{AsmRefusal, Code, assemble, listing};
 use cairo_model::End;
+use casm_text::{AsmRefusal, Code, assemble, listing};
 use std::alloc::{AllocError, Global};
 use std::test::Fail;
 
