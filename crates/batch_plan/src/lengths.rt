@@ -3,34 +3,34 @@
 use builtin_hash::CELLS_PER_INSTANCE;
 
 /// The frame of the batch.
-pub(crate) const BATCH_FRAME: u64 = 5;
+pub const BATCH_FRAME: u64 = 5;
 
 /// The state of the loop over tasks: how many are left, and three pointers.
-pub(crate) const LOOP_STATE: u64 = 4;
+pub const LOOP_STATE: u64 = 4;
 
 /// What a call puts.
-pub(crate) const CALL: u64 = 2;
+pub const CALL: u64 = 2;
 
 /// The frame of a task.
-pub(crate) const TASK_FRAME: u64 = 21;
+pub const TASK_FRAME: u64 = 21;
 
 /// A turn of the loop over hash instances.
-pub(crate) const HASH_TURN: u64 = 15;
+pub const HASH_TURN: u64 = 15;
 
 /// The words that such a turn hashes.
-pub(crate) const WORDS_PER_TURN: u64 = 4;
+pub const WORDS_PER_TURN: u64 = 4;
 
 /// What stands between the last of these turns and the task's call.
-pub(crate) const HEADER_COPY: u64 = 11;
+pub const HEADER_COPY: u64 = 11;
 
 /// The zeros behind a program.
-pub(crate) const ZEROS: u64 = 3;
+pub const ZEROS: u64 = 3;
 
 /// A header in the output.
-pub(crate) const HEADER: u64 = 9;
+pub const HEADER: u64 = 9;
 
 /// A hash instance.
-pub(crate) const INSTANCE: u64 = CELLS_PER_INSTANCE as u64;
+pub const INSTANCE: u64 = CELLS_PER_INSTANCE as u64;
 
 /// The address to which the bootloader's call of a task returns.
-pub(crate) const RETURN_ADDRESS: u64 = 106;
+pub const RETURN_ADDRESS: u64 = 106;

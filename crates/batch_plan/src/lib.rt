@@ -5,7 +5,7 @@ mod bases;
 mod batch_layout;
 mod cutting;
 mod laws;
-mod lengths;
+pub mod lengths;
 mod parts;
 mod planning;
 
