@@ -74,13 +74,13 @@ module _ (t : Task) (p : BatchParts) where
   few : c ≤ 65536
   few = size_few t 0 (omega arith)
 
-  some : 0 < c
+  pub some : 0 < c
   some = let e = t.accepted.main_in_code in omega (arith, e)
 
-  count : length (code_of t.checked) ≡ c
+  pub count : length (code_of t.checked) ≡ c
   count = code_count t
 
-  felt : (x : ℕ) → slice_index (code_of t.checked) x < prime
+  pub felt : (x : ℕ) → slice_index (code_of t.checked) x < prime
   felt x = elim (cases_lt x c) [
     | inl lt ↦ values_in t.checked.pie t.accepted.rules (place 0 x) (number (slice_index (code_of t.checked) x)) (code_each t x lt)
     | inr past ↦ nought x past
@@ -92,7 +92,7 @@ module _ (t : Task) (p : BatchParts) where
   words_are : (j : ℕ) → AreWords (words_after (first_words t.checked) (code_of t.checked) j)
   words_are j = AreWords-words_after (first_words t.checked) (code_of t.checked) j (AreWords-instance_of _ _)
 
-  eight_is : (j : ℕ) → words_after (first_words t.checked) (code_of t.checked) j ≡ eight (words_at t.checked j)
+  pub eight_is : (j : ℕ) → words_after (first_words t.checked) (code_of t.checked) j ≡ eight (words_at t.checked j)
   eight_is j = eight_same (words_after (first_words t.checked) (code_of t.checked) j) (words_at t.checked j) (words_are j).eight (refl, refl, refl, refl, refl, refl, refl, refl)
 
   all_felt : (j : ℕ) → All (λ n. n < prime) (group_at (code_of t.checked) j)
@@ -102,16 +102,19 @@ module _ (t : Task) (p : BatchParts) where
   all_felt j (suc (suc (suc zero))) d lt = felt (4 * j + 3)
   all_felt j (suc (suc (suc (suc k)))) d lt = absurd (omega (arith, lt))
 
-  block_instance : (j : ℕ) → 4 * j < c → IsInstance (row (words_at t.checked j) (code_numbers_at t.checked j) (words_at t.checked (suc j)))
-  block_instance j lt =
+  -- the words of each instance follow from those before
+  pub words_linked : (j : ℕ) → 4 * j < c → eight (words_at t.checked (suc j)) ≡ instance_of (eight (words_at t.checked j)) (group_at (code_of t.checked) j)
+  words_linked j lt =
       let n = count in
-      let next : eight (words_at t.checked (suc j)) ≡ instance_of (eight (words_at t.checked j)) (group_at (code_of t.checked) j) =
-      sym (eight_is (suc j)) ∙ ap (words_after (first_words t.checked) (code_of t.checked)) (one_more j) ∙ words_after-more (first_words t.checked) (code_of t.checked) j (omega (arith, lt, n)) ∙ ap (λ w. instance_of w (group_at (code_of t.checked) j)) (eight_is j) in
-      subst (λ (o : List ℕ). IsInstance (eight (words_at t.checked j) ++ group_at (code_of t.checked) j ++ o)) (sym next)
-      (IsInstance-joined (eight (words_at t.checked j)) (group_at (code_of t.checked) j) (subst AreWords (eight_is j) (words_are j)) refl (all_felt j))
+      sym (eight_is (suc j)) ∙ ap (words_after (first_words t.checked) (code_of t.checked)) (one_more j) ∙ words_after-more (first_words t.checked) (code_of t.checked) j (omega (arith, lt, n)) ∙ ap (λ w. instance_of w (group_at (code_of t.checked) j)) (eight_is j)
     where
       one_more : (j : ℕ) → suc j ≡ j + 1
       one_more j = omega arith
+
+  block_instance : (j : ℕ) → 4 * j < c → IsInstance (row (words_at t.checked j) (code_numbers_at t.checked j) (words_at t.checked (suc j)))
+  block_instance j lt =
+      subst (λ (o : List ℕ). IsInstance (eight (words_at t.checked j) ++ group_at (code_of t.checked) j ++ o)) (sym (words_linked j lt))
+      (IsInstance-joined (eight (words_at t.checked j)) (group_at (code_of t.checked) j) (subst AreWords (eight_is j) (words_are j)) refl (all_felt j))
 
   start_words : ℕ → ℕ
   start_words i = slice_index (chain_start (c + 4)) i

@@ -59,10 +59,10 @@ module _ (ts : List Task) where
   programs_at : program_from (checked_of ts) ≡ programs_start (sizes_in_plan ts)
   programs_at = let a = frame_total in let b = output_total in let c = range_total in let d = hash_total in omega (arith, a, b, c, d)
 
-  first_is : first_place (checked_of ts) ≡ first_parts (sizes_in_plan ts)
+  pub first_is : first_place (checked_of ts) ≡ first_parts (sizes_in_plan ts)
   first_is = same_parts _ _ refl (ap (λ (x : ℕ). x + 1) output_at) range_at hash_at programs_at
 
-next_is : (t : Task) (p : BatchParts) → next_place t.checked p ≡ moved_by p (task_parts t.checked.pie.sizes)
+pub next_is : (t : Task) (p : BatchParts) → next_place t.checked p ≡ moved_by p (task_parts t.checked.pie.sizes)
 next_is t p = same_parts _ _ (ap (λ (x : ℕ). p.frame + x) (sym (turn_is t))) refl refl (ap (λ (x : ℕ). p.hash + x) (sym (hash_is t))) refl
 
 own_cells_are : (t : Task) → own_cells (size t.checked 0) ≡ 38 + 15 * ((size t.checked 0 - 1) / 4 + 1)
@@ -71,7 +71,7 @@ own_cells_are t = let c = some_code t in omega (arith, c)
 own_instances_are : (t : Task) → own_instances (size t.checked 0) ≡ 20 * ((size t.checked 0 - 1) / 4 + 2)
 own_instances_are t = let c = some_code t in omega (arith, c)
 
-bases_are : (t : Task) (p : BatchParts) → bases_at t.checked p ≡ task_bases p t.checked.pie.sizes
+pub bases_are : (t : Task) (p : BatchParts) → bases_at t.checked p ≡ task_bases p t.checked.pie.sizes
 bases_are t p =
     let rest = bases_on (p.program + size t.checked 0 + 3) (drop 7 t.checked.pie.sizes) in
     ap₂ (λ (x y : ℕ). p.program ∷ (p.frame + x) ∷ (p.output + 9) ∷ p.range ∷ (p.hash + y) ∷ (p.frame + 6) ∷ 106 ∷ rest) (sym (own_cells_are t)) (sym (own_instances_are t))

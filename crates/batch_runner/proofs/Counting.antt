@@ -40,7 +40,7 @@ all_stand_in passes t ts limits =
     let later = values_of_all (next_place t.checked p) (checked_of ts) in
     let leaving = rows_from boot_code 1 m (symbolic_state 10 (tasks_end (task_values_at t.checked p) later) boot_frame) in
     let entry = entry_passes m boot boot_frame boot_frame (length (checked_of all)) (output_from (checked_of all)) (range_from (checked_of all)) (hash_from (checked_of all)) (whole.enters all fits) in
-    all_stand (cert_of t.checked (checked_of ts)) m refl boot passes (whole.idle_there all fits) leaving t ts p 4 (whole.rooms_of all fits) (whole.parts_there all) (omega (arith, n))
+    all_stand (cert_of t.checked (checked_of ts)) m refl boot passes (whole.idle_there all fits) leaving t ts p 4 (whole.rooms_of (checked_of all) fits) (whole.parts_there all) (omega (arith, n))
     (by_passes m 4 (state 1 boot_frame boot_frame) (state 6 128 boot_frame) (rows_from boot_code 4 m (symbolic_state 1 boot_frame boot_frame)) (tasks_rows m 128 boot_frame (task_values_at t.checked p) later ++ leaving) entry)
 
 -- what rises has room
@@ -104,14 +104,14 @@ counted passes t ts limits =
     record { states = omega (arith, count, rows); cells = omega (arith, room, parts, words) }
 
 -- what the type of certificates keeps
-bases_few : (before : ℕ) (p : BatchParts) (ts : List Task) → HasRooms p ts → All (λ (k : MarkRecord). length k.bases < 2 ^ 32) (marks_from before p (checked_of ts))
+bases_few : (before : ℕ) (p : BatchParts) (ts : List Task) → HasRooms p (checked_of ts) → All (λ (k : MarkRecord). length k.bases < 2 ^ 32) (marks_from before p (checked_of ts))
 unfolding marks_from
 bases_few before p [] rooms k d lt = absurd (omega (arith, lt))
 bases_few before p (t ∷ ts) rooms zero d lt =
-    let e = one_each t p (whole.room_here t ts p rooms) in
+    let e = one_each t p (whole.room_here t.checked (checked_of ts) p rooms) in
     let n = t.accepted.rules.are_sizes.at_most in
     omega (arith, e, n)
-bases_few before p (t ∷ ts) rooms (suc k) d lt = bases_few (before + task_length (task_values_at t.checked p)) (next_place t.checked p) ts (whole.room_next t ts p rooms) k d (omega (arith, lt))
+bases_few before p (t ∷ ts) rooms (suc k) d lt = bases_few (before + task_length (task_values_at t.checked p)) (next_place t.checked p) ts (whole.room_next t.checked (checked_of ts) p rooms) k d (omega (arith, lt))
 
 blocks_few : (ts : List Task) → turns_of (checked_of ts) ≤ length (checked_of ts) * 65536
 unfolding total
@@ -131,7 +131,7 @@ spelled passes t ts limits =
     let blocks = blocks_few all in
     record {
       few_tasks = omega (arith, marks, n);
-      few_bases = bases_few 4 (first_place (checked_of all)) all (whole.rooms_of all fits);
+      few_bases = bases_few 4 (first_place (checked_of all)) all (whole.rooms_of (checked_of all) fits);
       few_cells = omega (arith, room, fits);
       few_states = omega (arith, run, rows, n, s, blocks);
       no_task_alone = λ e. absurd (other e);

@@ -36,7 +36,7 @@ owns_on base (z ∷ zs) (suc i) o lt inside =
     let h = bases_above (base + z) zs i (omega (arith, lt)) in
     above_is a (base + z) 0 (suc (owner_on (base + z) zs a)) (omega (arith, h)) ∙ ap suc (owns_on (base + z) zs i o (omega (arith, lt)) inside)
 
-module _ (t : Task) (p : BatchParts) (room : HasRoom t p) where
+module _ (t : Task) (p : BatchParts) (room : HasRoom t.checked p) where
   abbrev zs : List ℕ
   zs = drop 7 t.checked.pie.sizes
 

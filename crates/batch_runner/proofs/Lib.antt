@@ -18,3 +18,12 @@ pub mod Within
 pub mod ByIndex
 pub mod ByPlan
 pub mod Accepted
+pub mod TurnLists
+pub mod CodeWords
+pub mod Walking
+pub mod PartsInTurn
+pub mod PlacedTurns
+pub mod OwnValues
+pub mod ListsOfTasks
+pub mod BootFelts
+pub mod CellsIn

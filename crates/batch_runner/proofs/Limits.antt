@@ -14,7 +14,7 @@ use Rattle.batch_runner.specs.Working.Rooms.{WithinLimits}
 use Rattle.batch_runner.proofs.PiecesLaws.{rises}
 use Rattle.batch_runner.proofs.PartsRise.{words_rise, above_rises, all_rise}
 
-sum_drop : (n : ℕ) (xs : List ℕ) → sum (drop n xs) ≤ sum xs
+pub sum_drop : (n : ℕ) (xs : List ℕ) → sum (drop n xs) ≤ sum xs
 sum_drop zero xs = omega arith
 sum_drop (suc n) [] = omega arith
 sum_drop (suc n) (x ∷ xs) = let e = sum_drop n xs in let f = sum_by-cons (λ (y : ℕ). y) x xs in omega (arith, e, f)

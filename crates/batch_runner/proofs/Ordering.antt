@@ -46,7 +46,7 @@ use Rattle.batch_runner.proofs.WholeBatch as whole
 
 -- ---- a task's rows stand above the bootloader
 
-above_boot : (t : Task) (p : BatchParts) → HasRoom t p → (s : ℕ) → s < length t.checked.pie.sizes → 0 < size t.checked s → 119 ≤ base_of (bases_at t.checked p) s
+above_boot : (t : Task) (p : BatchParts) → HasRoom t.checked p → (s : ℕ) → s < length t.checked.pie.sizes → 0 < size t.checked s → 119 ≤ base_of (bases_at t.checked p) s
 above_boot t p room zero lt some = let b = room.above_boot in let r = room.turn_room in let q = room.output_room in let u = room.range_room in let w = room.hash_room in omega (arith, b, r, q, u, w)
 above_boot t p room (suc zero) lt some = let b = room.above_boot in omega (arith, b)
 above_boot t p room (suc (suc zero)) lt some = let b = room.above_boot in let r = room.turn_room in omega (arith, b, r)
@@ -62,7 +62,7 @@ above_boot t p room (suc (suc (suc (suc (suc (suc (suc i))))))) lt some =
     let e : 7 + i ≡ suc (suc (suc (suc (suc (suc (suc i)))))) = omega arith in
     subst (λ (x : ℕ). 119 ≤ base_of (bases_at t.checked p) x) e (omega (arith, at, low, b, r, q, u, w))
 
-module _ (m : ℕ → Option ℕ) (left : ℕ) (t : Task) (p : BatchParts) (room : HasRoom t p) (fit : (s : ℕ) → s < length t.checked.pie.sizes → base_of (bases_at t.checked p) s + size t.checked s < prime) where
+module _ (m : ℕ → Option ℕ) (left : ℕ) (t : Task) (p : BatchParts) (room : HasRoom t.checked p) (fit : (s : ℕ) → s < length t.checked.pie.sizes → base_of (bases_at t.checked p) s + size t.checked s < prime) where
   pc_above : (a v : Datum) → memory_of t.checked.pie.cells a ≡ Some v → boot_end < relocated (bases_at t.checked p) a
   pc_above (number n) v is = absurd (cc)
   pc_above (place s o) v is =
@@ -166,7 +166,7 @@ module _ (cells : List FieldCell) (m : ℕ → Option ℕ) (same : cell_at cells
   unfolding rows_from
   one_row s = refl
 
-  module _ (t : Task) (ts : List Task) (p : BatchParts) (before : ℕ) (rooms : HasRooms p (t ∷ ts)) (has : HasAllParts m p (t ∷ ts)) (few : length (checked_of ts) < 2 ^ 32) where
+  module _ (t : Task) (ts : List Task) (p : BatchParts) (before : ℕ) (rooms : HasRooms p (checked_of (t ∷ ts))) (has : HasAllParts m p (t ∷ ts)) (few : length (checked_of ts) < 2 ^ 32) where
     abbrev a : ℕ
     a = p.frame + 4
 
@@ -191,8 +191,8 @@ module _ (cells : List FieldCell) (m : ℕ → Option ℕ) (same : cell_at cells
     abbrev InPlace : ℕ → Registers ℕ → Type 0
     InPlace = RowInOrder cells (own ∷ later) (t ∷ ts)
 
-    room : HasRoom t p
-    room = whole.room_here t ts p rooms
+    room : HasRoom t.checked p
+    room = whole.room_here t.checked (checked_of ts) p rooms
 
     runs : TaskRuns m a boot_frame (suc (length (checked_of ts))) names
     runs = placed.task_runs m (length (checked_of ts)) t p room (whole.task_there m t ts p has) few passes idle
@@ -308,15 +308,15 @@ module _ (cells : List FieldCell) (m : ℕ → Option ℕ) (same : cell_at cells
         not_zero x some = grind (arith, nat_tests, some)
 
   -- all tasks, by induction
-  pub tasks_in_order : (t : Task) (ts : List Task) (p : BatchParts) (before : ℕ) → HasRooms p (t ∷ ts) → HasAllParts m p (t ∷ ts) → length (checked_of ts) < 2 ^ 32
+  pub tasks_in_order : (t : Task) (ts : List Task) (p : BatchParts) (before : ℕ) → HasRooms p (checked_of (t ∷ ts)) → HasAllParts m p (t ∷ ts) → length (checked_of ts) < 2 ^ 32
       → EachRow (RowInOrder cells (marks_from before p (checked_of (t ∷ ts))) (t ∷ ts)) before (state 6 (p.frame + 4) boot_frame) (tasks_rows m (p.frame + 4) boot_frame (task_values_at t.checked p) (values_of_all (next_place t.checked p) (checked_of ts)))
   unfolding marks_from tasks_rows values_of_all
   tasks_in_order t [] p before rooms has few = task_in_order t [] p before rooms has few
   tasks_in_order t (next ∷ ts) p before rooms has few =
       let q = next_place t.checked p in
-      let here = placed.next_is m (length (checked_of (next ∷ ts))) t p (whole.room_here t (next ∷ ts) p rooms) (whole.task_there m t (next ∷ ts) p has) few passes idle in
+      let here = placed.next_is m (length (checked_of (next ∷ ts))) t p (whole.room_here t.checked (checked_of (next ∷ ts)) p rooms) (whole.task_there m t (next ∷ ts) p has) few passes idle in
       let after = before + task_length (task_values_at t.checked p) in
-      let rest = tasks_in_order next ts q after (whole.room_next t (next ∷ ts) p rooms) (whole.parts_next m t (next ∷ ts) p has) (omega (arith, few)) in
+      let rest = tasks_in_order next ts q after (whole.room_next t.checked (checked_of (next ∷ ts)) p rooms) (whole.parts_next m t (next ∷ ts) p has) (omega (arith, few)) in
       let own : MarkRecord = record { row = before + turn_length (more_turns (size t.checked 0)); bases = bases_at t.checked p } in
       each_passed (RowInOrder cells (own ∷ marks_from after q (checked_of (next ∷ ts))) (t ∷ next ∷ ts)) m before (task_length (task_values_at t.checked p)) (state 6 (p.frame + 4) boot_frame) (state 6 (q.frame + 4) boot_frame)
       (task_rows m (p.frame + 4) boot_frame (task_values_at t.checked p)) (tasks_rows m (next_turn (task_values_at t.checked p)) boot_frame (task_values_at next.checked q) (values_of_all (next_place next.checked q) (checked_of ts)))
@@ -353,7 +353,7 @@ rows_in_order passes t ts limits =
     let p = first_place (checked_of all) in
     let fits = free_few all limits in
     let boot = whole.boot_there all in
-    let rooms = whole.rooms_of all fits in
+    let rooms = whole.rooms_of (checked_of all) fits in
     let parts = whole.parts_there all in
     let idle = whole.idle_there all fits in
     let n = limits.few_tasks in

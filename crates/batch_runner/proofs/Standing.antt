@@ -76,7 +76,7 @@ start_is a n bases t at =
     ∙ ap (λ x. state (sum_of n.task.program n.task.main) x x) at.execution
 
 module _ (cert : CertRecord) (m : ℕ → Option ℕ) (same : cell_at cert.cells ≡ m) (boot : HasBoot m) (passes : TaskPasses) (idle : IsPresent m (down boot_frame 1)) (tail : List (Registers ℕ)) where
-  module _ (t : Task) (ts : List Task) (p : BatchParts) (before : ℕ) (rooms : HasRooms p (t ∷ ts)) (has : HasAllParts m p (t ∷ ts)) (few : length (checked_of ts) < 2 ^ 32) (later : List (Registers ℕ))
+  module _ (t : Task) (ts : List Task) (p : BatchParts) (before : ℕ) (rooms : HasRooms p (checked_of (t ∷ ts))) (has : HasAllParts m p (t ∷ ts)) (few : length (checked_of ts) < 2 ^ 32) (later : List (Registers ℕ))
       (rows : drop before cert.states ≡ state 6 (p.frame + 4) boot_frame ∷ (task_rows m (p.frame + 4) boot_frame (task_values_at t.checked p) ++ later)) where
     abbrev a : ℕ
     a = p.frame + 4
@@ -85,7 +85,7 @@ module _ (cert : CertRecord) (m : ℕ → Option ℕ) (same : cell_at cert.cells
     names = task_values_at t.checked p
 
     runs : TaskRuns m a boot_frame (suc (length (checked_of ts))) names
-    runs = placed.task_runs m (length (checked_of ts)) t p (whole.room_here t ts p rooms) (whole.task_there m t ts p has) few passes idle
+    runs = placed.task_runs m (length (checked_of ts)) t p (whole.room_here t.checked (checked_of ts) p rooms) (whole.task_there m t ts p has) few passes idle
 
     abbrev home_rows : List (Registers ℕ)
     home_rows = rows_from boot_code 11 m (symbolic_state 106 names.final_ap (frame_at a)) ++ rows_from boot_code 1 m (symbolic_state 8 (next_turn names) boot_frame)
@@ -100,7 +100,7 @@ module _ (cert : CertRecord) (m : ℕ → Option ℕ) (same : cell_at cert.cells
 
     pub stands : MarkStands cert (record { row = before + turn_length (more_turns (size t.checked 0)); bases = bases_at t.checked p }) t.checked
     stands =
-        let room = whole.room_here t ts p rooms in
+        let room = whole.room_here t.checked (checked_of ts) p rooms in
         let task = whole.task_there m t ts p has in
         let pie = t.checked.pie in
         let start = start_is a (turn_values_at t.checked p) (bases_at t.checked p) t (placed.at_call m (length (checked_of ts)) t p room task few) in
@@ -120,7 +120,7 @@ module _ (cert : CertRecord) (m : ℕ → Option ℕ) (same : cell_at cert.cells
 
     pub after_task : length (checked_of ts) ≢ 0 → drop (before + task_length names) cert.states ≡ state 6 ((next_place t.checked p).frame + 4) boot_frame ∷ later
     after_task some =
-        let room = whole.room_here t ts p rooms in
+        let room = whole.room_here t.checked (checked_of ts) p rooms in
         let task = whole.task_there m t ts p has in
         let goes = task_goes m boot boot_frame a (suc (length (checked_of ts))) names runs in
         let less = placed.one_less m (length (checked_of ts)) t p room task few passes idle in
@@ -133,13 +133,13 @@ module _ (cert : CertRecord) (m : ℕ → Option ℕ) (same : cell_at cert.cells
         not_zero : (x : ℕ) → x ≢ 0 → (x == 0) ≡ false
         not_zero x some = grind (arith, nat_tests, some)
 
-  pub all_stand : (t : Task) (ts : List Task) (p : BatchParts) (before : ℕ) → HasRooms p (t ∷ ts) → HasAllParts m p (t ∷ ts) → length (checked_of ts) < 2 ^ 32
+  pub all_stand : (t : Task) (ts : List Task) (p : BatchParts) (before : ℕ) → HasRooms p (checked_of (t ∷ ts)) → HasAllParts m p (t ∷ ts) → length (checked_of ts) < 2 ^ 32
       → drop before cert.states ≡ state 6 (p.frame + 4) boot_frame ∷ (tasks_rows m (p.frame + 4) boot_frame (task_values_at t.checked p) (values_of_all (next_place t.checked p) (checked_of ts)) ++ tail)
       → MarksStand cert (marks_from before p (checked_of (t ∷ ts))) (t ∷ ts)
   unfolding MarksStand marks_from tasks_rows values_of_all
   all_stand t [] p before rooms has few rows = (stands t [] p before rooms has few tail rows, tt)
   all_stand t (next ∷ ts) p before rooms has few rows =
-      let room = whole.room_here t (next ∷ ts) p rooms in
+      let room = whole.room_here t.checked (checked_of (next ∷ ts)) p rooms in
       let task = whole.task_there m t (next ∷ ts) p has in
       let q = next_place t.checked p in
       let here = placed.next_is m (length (checked_of (next ∷ ts))) t p room task few passes idle in
@@ -149,6 +149,6 @@ module _ (cert : CertRecord) (m : ℕ → Option ℕ) (same : cell_at cert.cells
       rows ∙ ap (λ l. state 6 (p.frame + 4) boot_frame ∷ l) (append_assoc own (tasks_rows m (next_turn (task_values_at t.checked p)) boot_frame (task_values_at next.checked q) (values_of_all (next_place next.checked q) (checked_of ts))) tail)
       ∙ ap (λ x. state 6 (p.frame + 4) boot_frame ∷ (own ++ (tasks_rows m x boot_frame (task_values_at next.checked q) (values_of_all (next_place next.checked q) (checked_of ts)) ++ tail))) here in (
         stands t (next ∷ ts) p before rooms has few later rows_here,
-        all_stand next ts q (before + task_length (task_values_at t.checked p)) (whole.room_next t (next ∷ ts) p rooms) (whole.parts_next m t (next ∷ ts) p has) (omega (arith, few))
+        all_stand next ts q (before + task_length (task_values_at t.checked p)) (whole.room_next t.checked (checked_of (next ∷ ts)) p rooms) (whole.parts_next m t (next ∷ ts) p has) (omega (arith, few))
             (after_task t (next ∷ ts) p before rooms has few later rows_here (λ e. absurd (omega (arith, e)))),
       )

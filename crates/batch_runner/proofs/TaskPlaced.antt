@@ -59,7 +59,7 @@ counts_down (suc more) left is few = (λ e. absurd (omega (arith, is, few, e)), 
 filled_is : (c : ℕ) → 0 < c → c ≤ 65536 → sum_of (sum_of (sum_of c (zeros_for c % 2)) (zeros_for c / 2)) (zeros_for c / 2) ≡ 4 * (more_turns c + 1)
 filled_is c some few = omega (arith, some, few)
 
-module _ (m : ℕ → Option ℕ) (left : ℕ) (t : Task) (p : BatchParts) (room : HasRoom t p) (has : HasTask m left t p) (few : left < 2 ^ 32) where
+module _ (m : ℕ → Option ℕ) (left : ℕ) (t : Task) (p : BatchParts) (room : HasRoom t.checked p) (has : HasTask m left t p) (few : left < 2 ^ 32) where
   abbrev bases : List ℕ
   bases = bases_at t.checked p
 

@@ -3,6 +3,7 @@ use Rattle.std.proofs.Common.{◌≡◌, ℕ, zero, suc, ◌+◌, ◌-◌, ◌^�
 use Rattle.goldi_field.specs.Numbers.{prime}
 use Rattle.cairo_model.specs.Machine.Steps.{field_arithmetic}
 use Rattle.cairo_model.specs.Machine.FieldMemories.{FieldCell}
+use Rattle.cairo_model.specs.Pie.Acceptance.{CheckedRecord}
 use Rattle.boot_program.specs.Words.{boot_words, boot_end, HasBoot}
 use Rattle.batch_plan.specs.Parts.{BatchParts}
 use Rattle.batch_runner.specs.Working.Tasks.{Task, checked_of}
@@ -34,13 +35,13 @@ first_numbered a v base [] ys none = absurd none
 first_numbered a v base (x ∷ xs) ys (inl is) = inl is
 first_numbered a v base (x ∷ xs) ys (inr later) = inr (first_numbered a v (suc base) xs ys later)
 
-pub room_here : (t : Task) (ts : List Task) (p : BatchParts) → HasRooms p (t ∷ ts) → HasRoom t p
+pub room_here : (t : CheckedRecord) (ts : List CheckedRecord) (p : BatchParts) → HasRooms p (t ∷ ts) → HasRoom t p
 unfolding total
 room_here t ts p r =
     let a = r.turn_rooms in let b = r.output_rooms in let c = r.range_rooms in let d = r.hash_rooms in let e = r.program_rooms in
     record { above_boot = r.above_boot; turn_room = omega (arith, a); output_room = omega (arith, b); range_room = omega (arith, c); hash_room = omega (arith, d); program_room = omega (arith, e) }
 
-pub room_next : (t : Task) (ts : List Task) (p : BatchParts) → HasRooms p (t ∷ ts) → HasRooms (next_place t.checked p) ts
+pub room_next : (t : CheckedRecord) (ts : List CheckedRecord) (p : BatchParts) → HasRooms p (t ∷ ts) → HasRooms (next_place t p) ts
 unfolding total
 room_next t ts p r =
     let z = r.above_boot in let a = r.turn_rooms in let b = r.output_rooms in let c = r.range_rooms in let d = r.hash_rooms in let e = r.program_rooms in
@@ -93,32 +94,32 @@ module _ (m : ℕ → Option ℕ) where
 
   module _ (passes : TaskPasses) (idle : IsPresent m (down boot_frame 1)) where
     -- all tasks run, one after the other
-    pub tasks_run : (t : Task) (ts : List Task) (p : BatchParts) → HasRooms p (t ∷ ts) → HasAllParts m p (t ∷ ts) → length (checked_of ts) < 2 ^ 32
+    pub tasks_run : (t : Task) (ts : List Task) (p : BatchParts) → HasRooms p (checked_of (t ∷ ts)) → HasAllParts m p (t ∷ ts) → length (checked_of ts) < 2 ^ 32
         → TasksRun m (p.frame + 4) boot_frame (suc (length (checked_of ts))) (task_values_at t.checked p) (values_of_all (next_place t.checked p) (checked_of ts))
     unfolding TasksRun values_of_all
     tasks_run t [] p rooms has few =
-        let room = room_here t [] p rooms in
+        let room = room_here t.checked (checked_of []) p rooms in
         let task = task_there t [] p has in
         (placed.task_runs m 0 t p room task few passes idle, placed.one_less m 0 t p room task few passes idle)
     tasks_run t (next ∷ ts) p rooms has few =
-        let room = room_here t (next ∷ ts) p rooms in
+        let room = room_here t.checked (checked_of (next ∷ ts)) p rooms in
         let task = task_there t (next ∷ ts) p has in
         let left = length (checked_of (next ∷ ts)) in
         let less = placed.one_less m left t p room task few passes idle in
         let turn = placed.next_is m left t p room task few passes idle in
-        let later = tasks_run next ts (next_place t.checked p) (room_next t (next ∷ ts) p rooms) (parts_next t (next ∷ ts) p has) (omega (arith, few)) in (
+        let later = tasks_run next ts (next_place t.checked p) (room_next t.checked (checked_of (next ∷ ts)) p rooms) (parts_next t (next ∷ ts) p has) (omega (arith, few)) in (
           placed.task_runs m left t p room task few passes idle,
           (λ e. absurd (omega (arith, e, less))),
           subst (λ (x : ℕ). TasksRun m x boot_frame (down (suc left) 1) (task_values_at next.checked (next_place t.checked p)) (values_of_all (next_place next.checked (next_place t.checked p)) (checked_of ts))) (sym turn)
               (subst (λ (x : ℕ). TasksRun m ((next_place t.checked p).frame + 4) boot_frame x (task_values_at next.checked (next_place t.checked p)) (values_of_all (next_place next.checked (next_place t.checked p)) (checked_of ts))) (sym less) later),
         )
 
-    pub tasks_end_is : (t : Task) (ts : List Task) (p : BatchParts) → HasRooms p (t ∷ ts) → HasAllParts m p (t ∷ ts) → length (checked_of ts) < 2 ^ 32
+    pub tasks_end_is : (t : Task) (ts : List Task) (p : BatchParts) → HasRooms p (checked_of (t ∷ ts)) → HasAllParts m p (t ∷ ts) → length (checked_of ts) < 2 ^ 32
         → tasks_end (task_values_at t.checked p) (values_of_all (next_place t.checked p) (checked_of ts)) ≡ (end_place p (checked_of (t ∷ ts))).frame + 4
     unfolding tasks_end values_of_all end_place
-    tasks_end_is t [] p rooms has few = placed.next_is m 0 t p (room_here t [] p rooms) (task_there t [] p has) few passes idle
+    tasks_end_is t [] p rooms has few = placed.next_is m 0 t p (room_here t.checked (checked_of []) p rooms) (task_there t [] p has) few passes idle
     tasks_end_is t (next ∷ ts) p rooms has few =
-        tasks_end_is next ts (next_place t.checked p) (room_next t (next ∷ ts) p rooms) (parts_next t (next ∷ ts) p has) (omega (arith, few))
+        tasks_end_is next ts (next_place t.checked p) (room_next t.checked (checked_of (next ∷ ts)) p rooms) (parts_next t (next ∷ ts) p has) (omega (arith, few))
 
 -- where a list has a value
 stands_get : (base : ℕ) (vs : List ℕ) (i w : ℕ) → slice_get vs i ≡ Some w → Stands (base + i) w (numbered base vs)
@@ -138,7 +139,7 @@ has_boot m has zero w is = absurd (none is)
     none e = cc
 has_boot m has (suc i) w is = let e : 1 + i ≡ suc i = omega arith in has (suc i) w (subst (λ (x : ℕ). Stands x w words_part) e (stands_get 1 boot_words i w is))
 
-pub rooms_of : (ts : List Task) → free_from (checked_of ts) < 2 ^ 32 → HasRooms (first_place (checked_of ts)) ts
+pub rooms_of : (ts : List CheckedRecord) → free_from ts < 2 ^ 32 → HasRooms (first_place ts) ts
 rooms_of ts fits = record {
   above_boot = omega arith;
   turn_rooms = omega arith;
@@ -227,7 +228,7 @@ batch_runs passes t ts fits few =
     let m = memory_of_batch (checked_of all) in
     let p = first_place (checked_of all) in
     let idle = idle_there all fits in
-    let rooms = rooms_of all fits in
+    let rooms = rooms_of (checked_of all) fits in
     let parts = parts_there all in
     let later = values_of_all (next_place t.checked p) (checked_of ts) in
     let end = tasks_end_is m passes idle t ts p rooms parts few in

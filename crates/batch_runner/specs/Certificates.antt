@@ -1,5 +1,5 @@
 -- The certificate of a batch in closed form, and how many states and cells it may have.
-use Rattle.std.specs.Prelude.{List, [], length, sum, ℕ, ◌*◌, ◌+◌, ◌∷◌, ◌≤◌}
+use Rattle.std.specs.Prelude.{List, [], length, sum, ℕ, ◌*◌, ◌+◌, ◌∷◌, ◌≡◌, ◌≤◌}
 use Rattle.boot_program.specs.Cells.{state}
 use Rattle.boot_program.specs.Tasks.{task_length}
 use Rattle.boot_program.specs.Turns.{turn_length}
@@ -36,6 +36,11 @@ cert_of t ts =
       cells = all_cells all;
       states = state entry_pc boot_frame boot_frame ∷ batch_rows t ts;
     }
+
+-- the certificate is the one of these tasks: a batch has one at least
+abbrev pub IsCertOf : List CheckedRecord → CertRecord → Type 0
+IsCertOf [] cert = ⊥
+IsCertOf (t ∷ ts) cert = cert ≡ cert_of t ts
 
 -- the turns of the loop over hash instances, the steps and the sizes of all tasks
 abbrev pub turns_of : List CheckedRecord → ℕ

@@ -5,3 +5,8 @@ pub mod Memories
 pub mod TaskRuns
 pub mod Marks
 pub mod Ordering
+pub mod Places
+pub mod Placing
+pub mod Turns
+pub mod Values
+pub mod Stepping

@@ -11,22 +11,22 @@ abbrev pub free_from : List CheckedRecord → ℕ
 free_from ts = program_from ts + total program_size ts
 
 -- a place with room for a task, and the spans one after the other
-pub record HasRoom (t : Task) (p : BatchParts) : Type 0 where
+pub record HasRoom (t : CheckedRecord) (p : BatchParts) : Type 0 where
   pub above_boot : 124 ≤ p.frame
-  pub turn_room : p.frame + turn_size t.checked + 4 ≤ p.output
-  pub output_room : p.output + output_size t.checked ≤ p.range
-  pub range_room : p.range + size t.checked 3 ≤ p.hash
-  pub hash_room : p.hash + hash_size t.checked ≤ p.program
-  pub program_room : p.program + program_size t.checked < 2 ^ 32
+  pub turn_room : p.frame + turn_size t + 4 ≤ p.output
+  pub output_room : p.output + output_size t ≤ p.range
+  pub range_room : p.range + size t 3 ≤ p.hash
+  pub hash_room : p.hash + hash_size t ≤ p.program
+  pub program_room : p.program + program_size t < 2 ^ 32
 
 -- the parts of these tasks end before the next part begins
-pub record HasRooms (p : BatchParts) (ts : List Task) : Type 0 where
+pub record HasRooms (p : BatchParts) (ts : List CheckedRecord) : Type 0 where
   pub above_boot : 124 ≤ p.frame
-  pub turn_rooms : p.frame + total turn_size (checked_of ts) + 4 ≤ p.output
-  pub output_rooms : p.output + total output_size (checked_of ts) ≤ p.range
-  pub range_rooms : p.range + total (λ t. size t 3) (checked_of ts) ≤ p.hash
-  pub hash_rooms : p.hash + total hash_size (checked_of ts) ≤ p.program
-  pub program_rooms : p.program + total program_size (checked_of ts) < 2 ^ 32
+  pub turn_rooms : p.frame + total turn_size ts + 4 ≤ p.output
+  pub output_rooms : p.output + total output_size ts ≤ p.range
+  pub range_rooms : p.range + total (λ t. size t 3) ts ≤ p.hash
+  pub hash_rooms : p.hash + total hash_size ts ≤ p.program
+  pub program_rooms : p.program + total program_size ts < 2 ^ 32
 
 -- the limits of a batch, as sums over its tasks
 pub record WithinLimits (ts : List Task) : Type 0 where
