@@ -1,6 +1,6 @@
-ghost use Rattle.std.specs.Prelude.{◌≡◌, All, IfOk};
+ghost use Rattle.std.specs.Prelude.{◌≡◌, ◌<◌, ◌^◌, All, IfOk};
 ghost use Rattle.batch_plan.specs.Parts.{sizes_of_all};
-ghost use Rattle.batch_plan.specs.Plans.{IsPlan, first_parts, plan_of};
+ghost use Rattle.batch_plan.specs.Plans.{FollowBoot, IsPlan, plan_of};
 ghost use Rattle.boot_program.specs.Batch.Acceptance.{AcceptsBatch};
 ghost use Rattle.boot_program.specs.Batch.Order.{InOrder};
 ghost use Rattle.boot_program.specs.Batch.Parcels.{WithinBatch};
@@ -11,7 +11,7 @@ ghost use Rattle.cairo_model.specs.Views.Machine.{field_registers};
 ghost use Rattle.batch_runner.specs.Layout.{boot_frame};
 ghost use Rattle.batch_runner.specs.Certificates.{IsCertOf, IsSmall};
 ghost use Rattle.batch_runner.specs.Laws.{AreBatchCells, IsAccepted};
-ghost use Rattle.batch_runner.specs.Working.Places.{place_of};
+ghost use Rattle.batch_runner.specs.Working.Places.{first_in, place_of};
 
 use crate::laws::{
     batch_cells_rise, batch_is_small, batch_is_spelled, batches_are_accepted, cells_run,
@@ -68,7 +68,7 @@ fn certificate(alloc: Global, tasks: &[Checked], layout: &BatchLayout) -> Result
     batch_is_spelled();
     cells_run();
     plans_are_followed();
-    let first = first_place(layout, tasks);
+    let first = first_place(layout);
     let placed = placed_tasks(alloc, tasks, layout.tasks.as_slice(), first)?;
     let placed = placed.as_slice();
     let memory = batch_cells(alloc, &first, layout.free as u32, placed)?;
@@ -98,10 +98,11 @@ fn entry() -> FieldState
 }
 
 // Where the first task begins.
-fn first_place(layout: &BatchLayout, tasks: &[Checked]) -> TaskPlace
-    requires planned { layout.now ≡ plan_of (sizes_of_all tasks.now) }
-    requires keeps { IsPlan layout.now (sizes_of_all tasks.now) }
-    ensures { place_of result ≡ first_parts (sizes_of_all tasks.now) }
+fn first_place(layout: &BatchLayout) -> TaskPlace
+    requires ordered { FollowBoot layout.now }
+    requires low { layout.now.free < 2 ^ 32 }
+    requires counted { layout.now.output.start < layout.now.output.stop }
+    ensures { place_of result ≡ first_in layout.now }
 {
     TaskPlace {
         frame: BOOT_FRAME,

@@ -10,7 +10,7 @@ ghost use Rattle.batch_runner.specs.Pieces.{numbered};
 ghost use Rattle.batch_runner.specs.Working.Places.{place_of};
 ghost use Rattle.batch_runner.specs.Working.Placing.{boot_frame_list, cells_in_turn, last_state_list};
 
-use crate::parts::{push_frames, push_hashes, push_outputs, push_programs, push_ranges};
+use crate::parts::{Part, push_all, push_frames};
 use crate::pieces::push_numbers;
 use crate::place::TaskPlace;
 use crate::placed::PlacedTask;
@@ -39,10 +39,10 @@ pub(crate) fn batch_cells(
     let state = first.output - 1 - LOOP_STATE as u32;
     let last = push_numbers(frames, state, &last_state_values(first))?;
     let count = push_numbers(last, first.output - 1, &[felt_of(tasks.len() as u32)])?;
-    let outputs = push_outputs(alloc, count, tasks)?;
-    let ranges = push_ranges(outputs, tasks)?;
-    let hashes = push_hashes(alloc, ranges, tasks)?;
-    push_programs(hashes, tasks)
+    let outputs = push_all(alloc, count, tasks, Part::Outputs)?;
+    let ranges = push_all(alloc, outputs, tasks, Part::Ranges)?;
+    let hashes = push_all(alloc, ranges, tasks, Part::Hashes)?;
+    push_all(alloc, hashes, tasks, Part::Programs)
 }
 
 // The bootloader's words, the first at address 1.

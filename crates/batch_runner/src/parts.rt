@@ -3,7 +3,7 @@
 ghost use Rattle.std.specs.Prelude.{◌≡◌, ◌+◌, ◌<◌, ◌^◌, ◌++◌, length, map, IfOk};
 ghost use Rattle.cairo_model.specs.Machine.FieldMemories.{field_cell};
 ghost use Rattle.batch_runner.specs.Memory.{turn_cells};
-ghost use Rattle.batch_runner.specs.Working.Placing.{all_frame_cells, each_in_turn, frame_cells, hash_cells, header_cells, instance_cells, other_cells, output_cells, program_cells, range_cells, segment_cells, zero_cells};
+ghost use Rattle.batch_runner.specs.Working.Placing.{all_frame_cells, cells_in, each_in_turn, frame_cells, hash_cells, header_cells, instance_cells, other_cells, output_cells, program_cells, segment_cells, zero_cells};
 
 use crate::pieces::{push_numbers, push_segment, push_segments};
 use crate::place::size_at;
@@ -58,20 +58,47 @@ fn push_own(
     push_numbers(cells, task.at().frame, own.as_slice())
 }
 
-/// The headers and outputs.
+/// The parts that hold no more than the tasks bring: headers and outputs, range cells, hash instances, and programs with what has
+/// no span of its own.
+#[derive(Clone, Copy, Debug)]
+pub(crate) enum Part {
+    Outputs,
+    Ranges,
+    Hashes,
+    Programs,
+}
+
+/// A part, task after task.
 #[tactic(auto, unfolding(crate::specs::Working::Placing::each_in_turn))]
-pub(crate) fn push_outputs(
+pub(crate) fn push_all(
     alloc: Global,
     cells: Vec<(Felt, Felt)>,
     tasks: &[PlacedTask],
+    part: Part,
 ) -> Result<Vec<(Felt, Felt)>, AllocError>
-    ensures { IfOk result (λ out. map field_cell out.items ≡ map field_cell cells.items ++ each_in_turn output_cells tasks.now) }
+    ensures { IfOk result (λ out. map field_cell out.items ≡ map field_cell cells.items ++ each_in_turn (cells_in part) tasks.now) }
 {
     let mut out = cells;
     for task in tasks {
-        out = push_output(alloc, out, task)?;
+        out = push_task(alloc, out, task, part)?;
     }
     Ok(out)
+}
+
+fn push_task(
+    alloc: Global,
+    cells: Vec<(Felt, Felt)>,
+    task: &PlacedTask,
+    part: Part,
+) -> Result<Vec<(Felt, Felt)>, AllocError>
+    ensures { IfOk result (λ out. map field_cell out.items ≡ map field_cell cells.items ++ cells_in part task.now) }
+{
+    match part {
+        Part::Outputs => push_output(alloc, cells, task),
+        Part::Ranges => push_part(cells, task, RANGE),
+        Part::Hashes => push_hash(alloc, cells, task),
+        Part::Programs => push_program(cells, task),
+    }
 }
 
 fn push_output(
@@ -96,37 +123,6 @@ fn push_header(
     push_numbers(cells, task.at().output, header.as_slice())
 }
 
-/// The range cells.
-#[tactic(auto, unfolding(crate::specs::Working::Placing::each_in_turn))]
-pub(crate) fn push_ranges(
-    cells: Vec<(Felt, Felt)>,
-    tasks: &[PlacedTask],
-) -> Result<Vec<(Felt, Felt)>, AllocError>
-    ensures { IfOk result (λ out. map field_cell out.items ≡ map field_cell cells.items ++ each_in_turn range_cells tasks.now) }
-{
-    let mut out = cells;
-    for task in tasks {
-        out = push_part(out, task, RANGE)?;
-    }
-    Ok(out)
-}
-
-/// The hash instances.
-#[tactic(auto, unfolding(crate::specs::Working::Placing::each_in_turn))]
-pub(crate) fn push_hashes(
-    alloc: Global,
-    cells: Vec<(Felt, Felt)>,
-    tasks: &[PlacedTask],
-) -> Result<Vec<(Felt, Felt)>, AllocError>
-    ensures { IfOk result (λ out. map field_cell out.items ≡ map field_cell cells.items ++ each_in_turn hash_cells tasks.now) }
-{
-    let mut out = cells;
-    for task in tasks {
-        out = push_hash(alloc, out, task)?;
-    }
-    Ok(out)
-}
-
 fn push_hash(
     alloc: Global,
     cells: Vec<(Felt, Felt)>,
@@ -147,21 +143,6 @@ fn push_instances(
 {
     let instances = instance_values(alloc, task)?;
     push_numbers(cells, task.at().hash, instances.as_slice())
-}
-
-/// The programs, the zeros behind them, and the segments from 7 on.
-#[tactic(auto, unfolding(crate::specs::Working::Placing::each_in_turn))]
-pub(crate) fn push_programs(
-    cells: Vec<(Felt, Felt)>,
-    tasks: &[PlacedTask],
-) -> Result<Vec<(Felt, Felt)>, AllocError>
-    ensures { IfOk result (λ out. map field_cell out.items ≡ map field_cell cells.items ++ each_in_turn program_cells tasks.now) }
-{
-    let mut out = cells;
-    for task in tasks {
-        out = push_program(out, task)?;
-    }
-    Ok(out)
 }
 
 fn push_program(

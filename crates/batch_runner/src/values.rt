@@ -17,7 +17,8 @@ ghost use Rattle.batch_runner.specs.Working.Values.{first_group, input_list, inp
 use crate::place::{instances_size, output_size, own_size, size_at, zeros_for};
 use crate::placed::PlacedTask;
 use crate::turns::{Turn, push_instances, push_turns, push_words};
-use batch_plan::lengths::{HEADER, INSTANCE};
+use batch_plan::lengths::{BATCH_FRAME, HEADER, INSTANCE};
+use boot_program::BOOT_END;
 use builtin_hash::instance;
 use cairo_model::segments::{BUILTIN_MASK, PROGRAM};
 use cairo_model::{State, felt_below, felt_of, pie_states_stay};
@@ -28,8 +29,8 @@ use std::alloc::{AllocError, Global};
 /// The address after the bootloader's jump back to the head of its loop over tasks.
 const BRANCH_ADDRESS: u32 = 8;
 
-/// fp of the batch.
-pub(crate) const BOOT_FRAME: u32 = 124;
+/// fp of the batch, whose frame stands just below.
+pub(crate) const BOOT_FRAME: u32 = BOOT_END as u32 + 1 + BATCH_FRAME as u32;
 
 /// From the state of the loop over tasks, so many of which are left, to the task's own cells.
 pub(crate) fn own_values(

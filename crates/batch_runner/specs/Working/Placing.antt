@@ -18,6 +18,8 @@ use Rattle.batch_runner.specs.Layout.{bases_at, code_of, more_turns, next_place,
 use Rattle.batch_runner.specs.Memory.{part, placed_on, turn_cells, turn_values_at, words_at, words_part}
 use Rattle.batch_runner.specs.Pieces.{numbered}
 use Rattle.batch_runner.specs.Working.Rooms.{HasRoom}
+use Rattle.batch_runner.specs.declared.parts.Part.{Part}
+use Rattle.batch_runner.specs.declared.parts.Part.TheVariants as part
 
 -- what a `PlacedTask` is seen as
 pub record PlacedRecord : Type 0 where
@@ -68,6 +70,13 @@ other_cells x = placed_on (bases_at x.task x.place) least_segments (drop least_s
 
 abbrev pub program_cells : PlacedRecord → List FieldCell
 program_cells x = segment_cells program_segment x ++ (zero_cells x ++ other_cells x)
+
+-- by the name that the code has for the part
+abbrev pub cells_in : Part → PlacedRecord → List FieldCell
+cells_in part.Outputs = output_cells
+cells_in part.Ranges = range_cells
+cells_in part.Hashes = hash_cells
+cells_in part.Programs = program_cells
 
 -- those of all tasks
 unfoldable pub all_frame_cells : List PlacedRecord → List FieldCell
