@@ -1,7 +1,4 @@
 pub mod Cells
-pub mod Gaps
-pub mod Growing
+pub mod Changes
+pub mod Paging
 pub mod SeenCells
-pub mod Looking
-pub mod Puts
-pub mod Starts

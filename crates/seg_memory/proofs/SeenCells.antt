@@ -2,21 +2,14 @@
 use Rattle.std.proofs.Common.{inl, inr, ◌≡◌, ℕ, zero, suc, ◌+◌, ◌<◌, ◌≤◌, ◌==◌, ◌&&◌, Bool, true, false, cond, List, [], ◌∷◌, ◌++◌, length, get_or, Option, Some, None, option_map, refl, sym, ap, ap₂, subst, ◌∙◌, arith}
 use Rattle.std.specs.List.Sorted.{IsStrictlyIncreasing}
 use Rattle.std.specs.Option.{option_or}
-use Rattle.std.proofs.lemmas.Bool.{cases_eq, cases_lt, cond-true, cond-false, lt-ltb, le-ltb}
+use Rattle.std.proofs.lemmas.Bool.{cases_eq, cases_lt}
 use Rattle.std.proofs.lemmas.Bool.Decides.{nat_tests}
-use Rattle.std.proofs.lemmas.List.{append-nil, map-append, length-append, get_or_append_left, get_or_push}
+use Rattle.std.proofs.lemmas.List.{append-nil, map-append, length-append, length-map, get_or_append_left, get_or_push, get_or_past}
 use Rattle.cairo_model.specs.Machine.Values.{Datum}
 use Rattle.cairo_model.specs.Pie.Records.{MemoryCell, Rise, place_number, place_numbers, stands_at, value_at}
 use Rattle.seg_memory.specs.Memory.{MemoryRecord, cell_of}
 use Rattle.cairo_model.specs.Limits.{most_cells}
-use Rattle.seg_memory.specs.Working.Rows.{RowRecord, row_size, row_cell, start_of, one_cell, with_segment, cells_to, seen}
-
--- a look-up in the row inside a segment, and outside
-pub cell_inside : (m : RowRecord) (s o : ℕ) → o < row_size m s → row_cell m s o ≡ get_or m.cells (start_of m.rooms s + o) None
-cell_inside m s o lt = cond-true _ _ _ (lt-ltb o (row_size m s) lt)
-
-pub cell_outside : (m : RowRecord) (s o : ℕ) → row_size m s ≤ o → row_cell m s o ≡ None
-cell_outside m s o le = cond-false _ _ _ (le-ltb o (row_size m s) le)
+use Rattle.seg_memory.specs.Working.Pages.{one_cell, with_segment, cells_to, Segments, sizes_of, segment_cell, seen}
 
 -- the value of a cell, where it stands at the place
 abbrev pub value_here : MemoryCell → ℕ → ℕ → Option Datum
@@ -93,17 +86,25 @@ module _ (f : ℕ → ℕ → Option Datum) where
       | inr other ↦ segment_else (cells_to f sizes j) j (get_or sizes j 0) s o (λ same _. other same) ∙ all_here j s o (omega (arith, less, other)) lt
     ]
 
-past_end : (sizes : List ℕ) (s o : ℕ) → o < get_or sizes s 0 → s < length sizes
+pub past_end : (sizes : List ℕ) (s o : ℕ) → o < get_or sizes s 0 → s < length sizes
 past_end [] s o lt = absurd (omega arith)
 past_end (x ∷ sizes) zero o lt = omega arith
 past_end (x ∷ sizes) (suc s) o lt = omega (arith, past_end sizes s o lt)
 
--- the memory of a row holds what stands in the row
-pub seen_cell : (r : RowRecord) (s o : ℕ) → cell_of (seen r) s o ≡ row_cell r s o
-seen_cell r s o = elim (cases_lt o (row_size r s)) [
-  | inl within ↦ all_here (row_cell r) r.sizes (length r.sizes) s o (past_end r.sizes s o within) within
-  | inr beyond ↦ all_else (row_cell r) r.sizes (length r.sizes) s o (λ _ lt. omega (arith, lt, beyond)) ∙ sym (cell_outside r s o beyond)
-]
+pub size_at : (segments : Segments) (s : ℕ) → get_or (sizes_of segments) s 0 ≡ length (get_or segments s [])
+size_at [] s = refl
+size_at (x ∷ segments) zero = refl
+size_at (x ∷ segments) (suc s) = size_at segments s
+
+-- the memory of segments holds what stands in them
+pub seen_cell : (segments : Segments) (s o : ℕ) → cell_of (seen segments) s o ≡ segment_cell segments s o
+seen_cell segments s o =
+    let size = size_at segments s in
+    let count = length-map segments (λ cells. length cells) in
+    elim (cases_lt o (get_or (sizes_of segments) s 0)) [
+      | inl within ↦ all_here (segment_cell segments) (sizes_of segments) (length segments) s o (omega (arith, past_end (sizes_of segments) s o within, count)) within
+      | inr beyond ↦ all_else (segment_cell segments) (sizes_of segments) (length segments) s o (λ _ lt. omega (arith, lt, beyond)) ∙ sym (get_or_past (get_or segments s []) o None (omega (arith, beyond, size)))
+    ]
 
 -- ---- they rise
 
@@ -168,9 +169,9 @@ module _ (f g : ℕ → ℕ → Option Datum) (same : (s o : ℕ) → f s o ≡ 
       ap (λ xs. with_segment f xs j (get_or sizes j 0)) (listed_same sizes j) ∙ segment_same (cells_to g sizes j) j (get_or sizes j 0)
 
 -- the cells of a memory are those that its look-up lists
-pub listed_all : (r : RowRecord) (m : MemoryRecord) → seen r ≡ m → (k : ℕ) → k ≡ length m.sizes → cells_to (cell_of m) m.sizes k ≡ m.cells
-listed_all r m view = subst (λ (n : MemoryRecord). (k : ℕ) → k ≡ length n.sizes → cells_to (cell_of n) n.sizes k ≡ n.cells) view
-    (λ k all. ap (cells_to (cell_of (seen r)) r.sizes) all ∙ listed_same (cell_of (seen r)) (row_cell r) (seen_cell r) r.sizes (length r.sizes))
+pub listed_all : (segments : Segments) (m : MemoryRecord) → seen segments ≡ m → (k : ℕ) → k ≡ length segments → cells_to (cell_of m) m.sizes k ≡ m.cells
+listed_all segments m view = subst (λ (n : MemoryRecord). (k : ℕ) → k ≡ length segments → cells_to (cell_of n) n.sizes k ≡ n.cells) view
+    (λ k all. ap (cells_to (cell_of (seen segments)) (sizes_of segments)) all ∙ listed_same (cell_of (seen segments)) (segment_cell segments) (seen_cell segments) (sizes_of segments) (length segments))
 
-pub cells_rise : (r : RowRecord) (m : MemoryRecord) → seen r ≡ m → ((s : ℕ) → get_or r.sizes s 0 ≤ most_cells) → Rise m.cells
-cells_rise r m view small = subst (λ (n : MemoryRecord). Rise n.cells) view (listed_rise (row_cell r) r.sizes (length r.sizes) small)
+pub cells_rise : (segments : Segments) (m : MemoryRecord) → seen segments ≡ m → ((s : ℕ) → get_or (sizes_of segments) s 0 ≤ most_cells) → Rise m.cells
+cells_rise segments m view small = subst (λ (n : MemoryRecord). Rise n.cells) view (listed_rise (segment_cell segments) (sizes_of segments) (length segments) small)

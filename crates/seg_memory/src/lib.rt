@@ -5,9 +5,7 @@ mod filling;
 mod listing;
 mod memory;
 mod put_fault;
-mod rows;
-#[cfg(test)]
-mod tests;
+mod segment;
 
 pub use memory::SegMemory;
 pub use put_fault::PutFault;

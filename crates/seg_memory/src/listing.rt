@@ -2,7 +2,7 @@ ghost use Rattle.std.specs.Prelude.{◌≡◌, ◌++◌, ◌<◌, map, OnOk};
 ghost use Rattle.cairo_model.specs.Limits.{offset_limit};
 ghost use Rattle.cairo_model.specs.Views.Pie.{memory_cell};
 ghost use Rattle.seg_memory.specs.Memory.{cell_of};
-ghost use Rattle.seg_memory.specs.Working.Rows.{one_cell, with_segment};
+ghost use Rattle.seg_memory.specs.Working.Pages.{one_cell, with_segment};
 
 use crate::memory::SegMemory;
 use cairo_model::{PieCell, Place};

@@ -1,4 +1,4 @@
-ghost use Rattle.std.specs.Prelude.{ℕ, ◌≡◌, ◌+◌, ◌<◌, ◌≤◌, length, map, sum, slice_get, slice_set, option_map, Option, Some, None, Err, IsOk, IfOk, IfErr, OnOk, OnErr, ◌↔◌};
+ghost use Rattle.std.specs.Prelude.{ℕ, ◌≡◌, ◌<◌, ◌≤◌, length, map, sum, get_or, set, replicate, slice_get, slice_set, option_map, Option, Some, None, Err, IsOk, IfOk, IfErr, OnOk, OnErr, ◌↔◌};
 ghost use Rattle.cairo_model.specs.Limits.{most_cells, most_segments};
 ghost use Rattle.cairo_model.specs.Machine.Values.{Datum};
 ghost use Rattle.cairo_model.specs.Pie.Records.{Rise};
@@ -8,33 +8,26 @@ ghost use Rattle.seg_memory.specs.Memory.{IsPut, HoldsSame, IsEmpty, cell_of, si
 
 use crate::listing::add_segment;
 use crate::put_fault::PutFault;
-use crate::rows::{empty_row, index_in, starts_of, total_of, with_gap};
-use cairo_model::limits::MOST_CELLS;
+use crate::segment::Segment;
 use cairo_model::{PieCell, Place, Value};
 use std::alloc::{AllocError, Global};
 use std::marker::Model;
 
 /// A memory of segments, seen as their sizes and a finite map from places to values. A cell takes a value once.
-/// All cells stand in one row. Each segment has room in it, which may be more than its size, from a start on.
 #[derive(Debug, Drop)]
 pub struct SegMemory {
-    sizes: Vec<u32>,
-    rooms: Vec<u32>,
-    starts: Vec<u32>,
-    cells: Vec<Option<Value>>,
+    segments: Vec<Segment>,
 }
 
 impl Model for SegMemory {
-    ghost use Rattle.std.specs.Prelude.{map, option_map};
-    ghost use Rattle.cairo_model.specs.Views.Machine.{datum};
     ghost use Rattle.seg_memory.specs.Memory.{MemoryRecord};
-    ghost use Rattle.seg_memory.specs.Working.Rows.{IsRow, row_with, seen};
+    ghost use Rattle.seg_memory.specs.Working.Pages.{AreFew, seen};
 
     ghost Value = { MemoryRecord };
 
-    ghost view = { λ m. seen (row_with m.sizes.items m.rooms.items (map (λ cell. option_map datum cell) m.cells.items)) };
+    ghost view = { λ m. seen m.segments.items };
 
-    ghost invariant = { λ m. IsRow m.sizes.items m.rooms.items m.starts.items (map (λ cell. option_map datum cell) m.cells.items) };
+    ghost invariant = { λ m. AreFew m.segments.items };
 }
 
 impl SegMemory {
@@ -45,16 +38,11 @@ impl SegMemory {
         ensures sizes { IfOk result (λ m. m.sizes ≡ sizes.now) }
         ensures empty { IfOk result IsEmpty }
     {
-        let cells = empty_row(alloc, total_of(sizes))?;
-        let starts = starts_of(alloc, sizes)?;
-        let rooms = sizes.to_vec(alloc)?;
-        let sizes = sizes.to_vec(alloc)?;
-        Ok(SegMemory {
-            sizes,
-            rooms,
-            starts,
-            cells,
-        })
+        let mut segments = Vec::new(alloc);
+        for size in sizes {
+            segments.push(empty_segment(alloc, *size)?)?;
+        }
+        Ok(SegMemory { segments })
     }
 
     /// The value that stands at a place. Takes no memory, and constant time.
@@ -62,10 +50,11 @@ impl SegMemory {
         ensures value { option_map datum result ≡ cell_of self.now place.segment place.offset }
         ensures outside { size_of self.now place.segment ≤ place.offset → result ≡ None }
     {
-        match index_in(self.sizes.as_slice(), self.starts.as_slice(), place) {
-            Ok(index) => self.cells[index],
-            Err(_) => None,
+        let index = usize::from(place.segment);
+        if index >= self.segments.len() {
+            return None;
         }
+        self.segments[index].get(place.offset)
     }
 
     /// The value at an address. A number as an address has no cell.
@@ -82,7 +71,22 @@ impl SegMemory {
     pub fn size(&self, segment: u16) -> Option<u32>
         ensures { result ≡ slice_get self.now.sizes segment }
     {
-        self.sizes.get(usize::from(segment)).copied()
+        let index = usize::from(segment);
+        if index >= self.segments.len() {
+            return None;
+        }
+        Some(self.segments[index].size())
+    }
+
+    // The size of a segment in cells, 0 where there is none.
+    fn cells_in(&self, segment: u16) -> u32
+        ensures { result ≡ size_of self.now segment }
+    {
+        let index = usize::from(segment);
+        if index >= self.segments.len() {
+            return 0;
+        }
+        self.segments[index].size()
     }
 
     /// The cells in which a value stands, in the order of segments and offsets. Of the memory of a PIE (`of`) they are its
@@ -92,8 +96,13 @@ impl SegMemory {
         ensures rise { IfOk result (λ cells. Rise (map memory_cell cells.items)) }
     {
         let mut cells = Vec::new(alloc);
-        for segment in 0..self.sizes.len() {
-            add_segment(self, segment as u16, self.sizes[segment], &mut cells)?;
+        for segment in 0..self.segments.len() {
+            add_segment(
+                self,
+                segment as u16,
+                self.segments[segment].size(),
+                &mut cells,
+            )?;
         }
         Ok(cells)
     }
@@ -108,19 +117,18 @@ impl SegMemory {
         ensures sizes { self.new.sizes ≡ self.old.sizes }
         ensures err { OnErr result (self.new ≡ self.old) }
     {
-        let index = match index_in(self.sizes.as_slice(), self.starts.as_slice(), place) {
-            Ok(index) => index,
-            Err(size) => return Err(PutFault::Outside(size)),
-        };
-        if let Some(taken) = self.cells[index] {
+        let size = self.cells_in(place.segment);
+        if place.offset >= size {
+            return Err(PutFault::Outside(size));
+        }
+        if let Some(taken) = self.get(place) {
             return Err(PutFault::Taken(taken));
         }
-        self.cells[index] = Some(value);
+        self.segments[usize::from(place.segment)].put(place.offset, value);
         Ok(())
     }
 
-    /// Raises the size of a segment. Where its room ends it takes twice as much, so that cells are moved seldom. After want
-    /// of memory nothing differs.
+    /// Raises the size of a segment: it gets pages, and no cell is moved. After want of memory nothing differs.
     pub fn grow(&mut self, alloc: Global, segment: u16, size: u32) -> Result<(), AllocError>
         requires there { segment < length self.old.sizes }
         requires larger { size_of self.old segment ≤ size }
@@ -129,35 +137,16 @@ impl SegMemory {
         ensures keeps { OnOk result (HoldsSame self.old self.new) }
         ensures err { OnErr result (self.new ≡ self.old) }
     {
-        let segment = usize::from(segment);
-        let room = self.rooms[segment];
-        if size <= room {
-            self.sizes[segment] = size;
-            return Ok(());
-        }
-        let wider = room_for(size);
-        let end = self.starts[segment] + room;
-        let cells = with_gap(alloc, self.cells.as_slice(), end as usize, wider - room)?;
-        let mut sizes = self.sizes.as_slice().to_vec(alloc)?;
-        let mut rooms = self.rooms.as_slice().to_vec(alloc)?;
-        sizes[segment] = size;
-        rooms[segment] = wider;
-        let starts = starts_of(alloc, rooms.as_slice())?;
-        *self = SegMemory {
-            sizes,
-            rooms,
-            starts,
-            cells,
-        };
-        Ok(())
+        self.segments[usize::from(segment)].grow(alloc, size)
     }
 }
 
-// The room of a segment that has grown to a size: twice as much, as far as there can be cells.
-fn room_for(size: u32) -> u32
+// A segment of so many cells with no value.
+fn empty_segment(alloc: Global, size: u32) -> Result<Segment, AllocError>
     requires { size ≤ most_cells }
-    ensures enough { size ≤ result }
-    ensures at_most { result ≤ most_cells }
+    ensures { IfOk result (λ cells. cells ≡ replicate size None) }
 {
-    (2 * size).min(MOST_CELLS)
+    let mut segment = Segment::new(alloc);
+    segment.grow(alloc, size)?;
+    Ok(segment)
 }

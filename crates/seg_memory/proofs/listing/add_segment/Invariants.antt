@@ -1,7 +1,7 @@
 use Rattle.std.proofs.Common.{◌≡◌, map}
 use Rattle.cairo_model.specs.Views.Pie.{memory_cell}
 use Rattle.seg_memory.specs.Memory.{cell_of}
-use Rattle.seg_memory.specs.Working.Rows.{with_segment}
+use Rattle.seg_memory.specs.Working.Pages.{with_segment}
 use Rattle.seg_memory.proofs.listing.add_segment.Given as goal
 
 abbrev pub invariant-loop-offset : goal.invariant-loop-offset

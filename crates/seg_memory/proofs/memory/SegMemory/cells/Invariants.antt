@@ -1,7 +1,7 @@
 use Rattle.std.proofs.Common.{◌≡◌, map}
 use Rattle.cairo_model.specs.Views.Pie.{memory_cell}
 use Rattle.seg_memory.specs.Memory.{cell_of}
-use Rattle.seg_memory.specs.Working.Rows.{cells_to}
+use Rattle.seg_memory.specs.Working.Pages.{cells_to}
 use Rattle.seg_memory.proofs.memory.SegMemory.cells.Given as goal
 
 abbrev pub invariant-loop-segment : goal.invariant-loop-segment

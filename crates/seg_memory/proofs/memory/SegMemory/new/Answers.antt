@@ -1,7 +1,5 @@
-use Rattle.cairo_model.specs.Views.Machine.{datum}
-use Rattle.seg_memory.proofs.Puts.{none_stands}
+use Rattle.seg_memory.proofs.Changes.{is_empty}
 use Rattle.seg_memory.proofs.memory.SegMemory.new.Goals as goal
 
 pub returns-clause-empty : goal.returns-clause-empty
-returns-clause-empty c segment offset =
-    rw c.in_ok-cells.ensures (none_stands datum c.in_ok-sizes.sizes.items c.in_ok-rooms.rooms.items c.total_of.result segment offset)
+returns-clause-empty c = is_empty c.loop-size.segments.items c.loop-size.invariant.none

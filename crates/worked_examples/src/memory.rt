@@ -6,13 +6,13 @@ ghost use Rattle.cairo_model.specs.Views.Pie.{memory_cell};
 ghost use Rattle.cairo_model.specs.Machine.Values.{number as numeral};
 ghost use Rattle.cairo_model.specs.Views.Machine.{datum};
 
-use crate::{PutFault, SegMemory};
 use cairo_model::{Pie, PieCell, Place, Value, felt_of};
+use seg_memory::{PutFault, SegMemory};
 use std::alloc::{AllocError, Global};
 use std::test::Fail;
 
 fn at(segment: u16, offset: u32) -> Place
-    requires { offset < 10 }
+    requires { offset < 1000 }
     ensures segment { result.segment ≡ segment }
     ensures offset { result.offset ≡ offset }
 {
@@ -64,6 +64,27 @@ fn a_segment_that_grows_keeps_the_map(rt: HostRuntime) -> Result<(), Fail> {
     assert_eq!(rt; memory.get(at(0, 3)), Some(number(9)));
     assert_eq!(rt; memory.size(0), Some(4));
     assert_eq!(rt; memory.size(3), None);
+    Ok(())
+}
+
+#[test]
+fn a_page_is_added_where_one_ends(rt: HostRuntime) -> Result<(), Fail> {
+    let mut memory = SegMemory::new(rt.alloc(), &[256])?;
+    assert_eq!(rt; memory.put(at(0, 255), number(7)), Ok(()));
+    assert_eq!(rt;
+        memory.put(at(0, 256), number(8)),
+        Err(PutFault::Outside(256))
+    );
+    memory.grow(rt.alloc(), 0, 257)?;
+    assert_eq!(rt; memory.get(at(0, 255)), Some(number(7)));
+    assert_eq!(rt; memory.get(at(0, 256)), None);
+    assert_eq!(rt; memory.put(at(0, 256), number(8)), Ok(()));
+    assert_eq!(rt;
+        memory.put(at(0, 257), number(9)),
+        Err(PutFault::Outside(257))
+    );
+    assert_eq!(rt; memory.get(at(0, 255)), Some(number(7)));
+    assert_eq!(rt; memory.get(at(0, 256)), Some(number(8)));
     Ok(())
 }
 
