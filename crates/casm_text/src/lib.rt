@@ -28,4 +28,3 @@ pub use laws::{
 };
 pub use lister::listing;
 pub use refusal::AsmRefusal;
-

@@ -11,10 +11,10 @@ use Rattle.cairo_model.proofs.Bytes.{IsBytes}
 use Rattle.cairo_model.proofs.Magics.{another_byte}
 use Rattle.cert_format.specs.declared.refusal.CertRefusal.{CertRefusal}
 use Rattle.cert_format.specs.declared.refusal.CertRefusal.TheVariants.{BadMagic, Truncated, Order, Trailing}
-use Rattle.cert_format.specs.Working.Reading.{has_magic, after, after_all, draft_at, order_fault, ordered, reading}
+use Rattle.cert_format.specs.Reading.{has_magic, bytes_after, after_all, draft_at, order_fault, ordered, with_draft, reading}
 use Rattle.cert_format.specs.Spelling.{certificate_magic, CertBytes}
 use Rattle.cert_format.specs.Refusals.{IsCertCause, IsFirstCertCause}
-use Rattle.cert_format.proofs.CertLaws.{Accepted, accepted, ended, with_draft, with_all, with_body, with_magic, demand_kept, order_kept, room_for, cert_takes, cert_again}
+use Rattle.cert_format.proofs.CertLaws.{Accepted, accepted, ended, with_all, with_body, with_magic, demand_kept, order_kept, room_for, cert_takes, cert_again}
 use Rattle.cert_format.proofs.Causes.{clear_1, too_short, cut_short, bad_first, order_first, trailing_first, none_at_all, same_first}
 use Rattle.cert_format.proofs.ByteLaws.{spelling_fits}
 
@@ -28,7 +28,7 @@ order_refused : {A R : Type 0} (o : Option ℕ) (x : A) (e : CertRefusal) → or
 order_refused None x e h go = absurd (cc)
 order_refused (Some place) x e h go = go place refl (err_is (Order place) e h)
 
-short_of : (n : ℕ) (bytes : List ℕ) → after n bytes ≡ None → length bytes < n
+short_of : (n : ℕ) (bytes : List ℕ) → bytes_after n bytes ≡ None → length bytes < n
 short_of n bytes e = tested (ltb (length bytes) n) None (Some (drop n bytes)) None e (λ short _. ltb-true (length bytes) n short) (λ _ some. absurd (cc))
 
 -- behind the certificate_magic
@@ -60,9 +60,9 @@ refused_first bytes r fits e =
     (λ stop. demand_refused BadMagic (has_magic bytes) r stop (λ other same.
     same_first bytes BadMagic r (record { applies = another_byte certificate_magic refl bytes other; none_before = clear_1 bytes }) same))
     (λ m is0 e0. demand_kept BadMagic (has_magic bytes) m is0 (λ begins.
-    bind_refused (required (Truncated whole) (after 8 bytes)) (with_body whole) r e0
-    (λ stop. required_refused (Truncated whole) (after 8 bytes) r stop (λ none same. same_first bytes (Truncated whole) r (too_short bytes begins (short_of 8 bytes none)) same))
-    (λ body is1 e1. required_is (Truncated whole) (after 8 bytes) body is1 (λ found. room_for 8 bytes body found (λ room is_body.
+    bind_refused (required (Truncated whole) (bytes_after 8 bytes)) (with_body whole) r e0
+    (λ stop. required_refused (Truncated whole) (bytes_after 8 bytes) r stop (λ none same. same_first bytes (Truncated whole) r (too_short bytes begins (short_of 8 bytes none)) same))
+    (λ body is1 e1. required_is (Truncated whole) (bytes_after 8 bytes) body is1 (λ found. room_for 8 bytes body found (λ room is_body.
     refused_behind bytes body r fits begins room is_body e1)))))
 
 by_reading : (bytes : List ℕ) (given : Result CertRecord CertRefusal) → IsBytes bytes → reading bytes ≡ given → ((c : CertRecord) × CertBytes bytes c) ⊎ ((r : CertRefusal) × IsFirstCertCause bytes r)

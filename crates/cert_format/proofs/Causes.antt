@@ -8,7 +8,7 @@ use Rattle.cairo_model.proofs.Magics.{same_bytes}
 use Rattle.cert_format.specs.Spelling.{certificate_magic}
 use Rattle.cert_format.specs.declared.refusal.CertRefusal.{CertRefusal}
 use Rattle.cert_format.specs.declared.refusal.CertRefusal.TheVariants.{BadMagic, Truncated, BadNumber, Order, Trailing}
-use Rattle.cert_format.specs.Working.Reading.{has_magic, after_all, Draft, draft_at, order_fault}
+use Rattle.cert_format.specs.Reading.{has_magic, after_all, Draft, draft_at, order_fault}
 use Rattle.cert_format.specs.Refusals.{FitsBytes, entries_bytes, Parts, entries_of, HasParts, PartsHave, IsLeast, IsBadAt, IsUnorderedAt, refusal_number, IsCertCause, IsFirstCertCause}
 use Rattle.cert_format.proofs.EntryLaws.{Fit}
 use Rattle.cert_format.proofs.PartsFound.{parts_skip}

@@ -1,12 +1,12 @@
 -- The two laws: what is read is spelled so, and what is spelled so is read.
-use Rattle.std.proofs.Common.{◌≡◌, ℕ, ◌≤◌, Bool, true, false, cond, ltb, eqb, List, [], ◌∷◌, ◌++◌, length, take, drop, Option, Some, None, Result, Ok, Err, refl, sym, ap, subst, ◌∙◌, arith}
-use Rattle.std.specs.Prelude.{IfOk, is_none}
+use Rattle.std.proofs.Common.{◌≡◌, ℕ, ◌≤◌, Bool, true, false, ltb, eqb, List, [], ◌∷◌, ◌++◌, length, take, drop, Option, Some, None, Result, Ok, Err, refl, sym, ap, subst, ◌∙◌, arith}
+use Rattle.std.specs.Prelude.{IfOk}
 use Rattle.std.proofs.lemmas.Bool.{eqb-true, ltb-false}
 use Rattle.std.proofs.lemmas.Bool.Decides.{Decides-eqb}
 use Rattle.std.proofs.lemmas.List.{append-nil, nil_from_length, take-append-drop, length-take}
 use Rattle.std.proofs.lemmas.Slice.Eq.{starts_is}
 use Rattle.cairo_model.specs.Working.Answers.{Gives}
-use Rattle.cairo_model.specs.Certificate.Records.{CertKind, CertRecord, HasSpelling, IsCertificate}
+use Rattle.cairo_model.specs.Certificate.Records.{CertKind, CertRecord, IsCertificate}
 use Rattle.cairo_model.specs.Machine.Steps.{◌>>=◌, required, demanded}
 use Rattle.cairo_model.specs.declared.end.End.{End}
 use Rattle.cairo_model.specs.declared.end.End.TheVariants.{Refused}
@@ -14,12 +14,12 @@ use Rattle.cairo_model.proofs.Outcomes.{else_gives, bind_gives, bind_goes, requi
 use Rattle.cairo_model.proofs.Bytes.{IsBytes, IsBytes-drop}
 use Rattle.cert_format.specs.declared.refusal.CertRefusal.{CertRefusal}
 use Rattle.cert_format.specs.declared.refusal.CertRefusal.TheVariants.{BadMagic, Truncated, Trailing}
-use Rattle.cert_format.specs.Working.Reading.{has_magic, after, after_all, Draft, draft_at, order_fault, ordered, reading}
+use Rattle.cert_format.specs.Reading.{has_magic, bytes_after, after_all, Draft, draft_at, order_fault, ordered, ended_by, with_draft, reading}
 use Rattle.cert_format.specs.Spelling.{certificate_magic, kind_byte, body_bytes, spelling, CertBytes}
 use Rattle.cert_format.specs.Working.Ordering.{IsOrdered}
 use Rattle.cert_format.proofs.Skipping.{after_again}
 use Rattle.cert_format.proofs.OrderLaws.{is_ordered, no_order_fault}
-use Rattle.cert_format.proofs.CertParts.{parts_of, same_kind, kind_same, spelled_so, parts_spell, parts_certificate, cert_fits, cert_good}
+use Rattle.cert_format.proofs.CertParts.{parts_of, same_kind, kind_same, spelled_so, parts_certificate, cert_fits, cert_good}
 use Rattle.cert_format.proofs.PartsFound.{parts_skip}
 use Rattle.cert_format.proofs.ReadersScan.{IsDraftOf, cert_in, cert_of, draft_in, draft_made, draft_read}
 use Rattle.cert_format.proofs.Scanning.{scan_all}
@@ -32,10 +32,7 @@ is_in_order c h = record { output = h.output.ordered; range = h.range.ordered; h
 -- ---- the chain of the reading from its end
 
 abbrev pub ended : Draft × List ℕ → CertRecord → Result CertRecord CertRefusal
-ended x c = cond (eqb (length x.1) 0) (Ok c) (Err (Trailing (length x.1)))
-
-abbrev pub with_draft : ℕ → Draft × List ℕ → Result CertRecord CertRefusal
-with_draft whole x = ordered (order_fault whole x.0) x.0.cert >>= ended x
+ended x = ended_by (length x.1)
 
 abbrev pub with_all : ℕ → List ℕ → List ℕ → Result CertRecord CertRefusal
 with_all whole body rest = draft_at whole body >>= with_draft whole
@@ -44,7 +41,7 @@ abbrev pub with_body : ℕ → List ℕ → Result CertRecord CertRefusal
 with_body whole body = required (Truncated whole) (after_all body) >>= with_all whole body
 
 abbrev pub with_magic : List ℕ → Bool → Result CertRecord CertRefusal
-with_magic bytes b = required (Truncated (length bytes)) (after 8 bytes) >>= with_body (length bytes)
+with_magic bytes b = required (Truncated (length bytes)) (bytes_after 8 bytes) >>= with_body (length bytes)
 
 pub demand_kept : {E R : Type 0} (e : E) (b c : Bool) → demanded e b ≡ Ok c → (b ≡ true → R) → R
 demand_kept e true c h go = go refl
@@ -63,7 +60,7 @@ magic_stands bytes long begins =
     let is : certificate_magic ≡ take 8 bytes = whole ∙ ap (λ (r : List ℕ). take 8 bytes ++ r) nothing ∙ append-nil (take 8 bytes) in
     sym (take-append-drop 8 bytes) ∙ ap (λ (m : List ℕ). m ++ drop 8 bytes) (sym is)
 
-pub room_for : {R : Type 0} (n : ℕ) (bytes body : List ℕ) → after n bytes ≡ Some body → (n ≤ length bytes → drop n bytes ≡ body → R) → R
+pub room_for : {R : Type 0} (n : ℕ) (bytes body : List ℕ) → bytes_after n bytes ≡ Some body → (n ≤ length bytes → drop n bytes ≡ body → R) → R
 room_for n bytes body e go = else_gives (ltb (length bytes) n) (Some (drop n bytes)) body e (λ long is. go (ltb-false (length bytes) n long) (some_is (drop n bytes) body is))
 
 -- ---- what is read
@@ -99,8 +96,8 @@ accepted bytes c e =
     let whole = length bytes in
     bind_gives (demanded BadMagic (has_magic bytes)) (with_magic bytes) c e (λ m is0 e0.
     demand_kept BadMagic (has_magic bytes) m is0 (λ begins.
-    bind_gives (required (Truncated whole) (after 8 bytes)) (with_body whole) c e0 (λ body is1 e1.
-    required_is (Truncated whole) (after 8 bytes) body is1 (λ found. room_for 8 bytes body found (λ room is_body.
+    bind_gives (required (Truncated whole) (bytes_after 8 bytes)) (with_body whole) c e0 (λ body is1 e1.
+    required_is (Truncated whole) (bytes_after 8 bytes) body is1 (λ found. room_for 8 bytes body found (λ room is_body.
     bind_gives (required (Truncated whole) (after_all body)) (with_all whole body) c e1 (λ rest is2 e2.
     required_is (Truncated whole) (after_all body) rest is2 (λ all.
     bind_gives (draft_at whole body) (with_draft whole) c e2 (λ x is3 e3.
@@ -147,13 +144,13 @@ cert_again c h =
     let fit = cert_fits c h in
     let x : Draft × List ℕ = (draft_in p [], []) in
     let begins : has_magic bytes ≡ true = (starts_is Decides-eqb certificate_magic (take 8 bytes) (has_magic bytes) refl).1 [] refl in
-    let is_body : after 8 bytes ≡ Some body = after_again 8 certificate_magic body refl in
+    let is_body : bytes_after 8 bytes ≡ Some body = after_again 8 certificate_magic body refl in
     let is_whole : after_all body ≡ Some [] = ap after_all (cert_spelled c) ∙ parts_skip.again p [] fit in
     let read : draft_at whole body ≡ Ok x = draft_read whole p [] body fit (cert_spelled c) ∙ scan_all whole (entries_of p) [] (Ok x) (cert_good c h) in
     let in_order : IsOrdered (cert_in p) = subst (λ (d : CertRecord). IsOrdered d) (sym (same_cert c)) (is_in_order c h) in
     let kept : order_fault whole x.0 ≡ None = no_order_fault whole x.0 in_order in
     bind_goes (demanded BadMagic (has_magic bytes)) (with_magic bytes) c true (ap (demanded BadMagic) begins)
-    (bind_goes (required (Truncated whole) (after 8 bytes)) (with_body whole) c body (ap (required (Truncated whole)) is_body)
+    (bind_goes (required (Truncated whole) (bytes_after 8 bytes)) (with_body whole) c body (ap (required (Truncated whole)) is_body)
     (bind_goes (required (Truncated whole) (after_all body)) (with_all whole body) c [] (ap (required (Truncated whole)) is_whole)
     (bind_goes (draft_at whole body) (with_draft whole) c x read
     (bind_goes (ordered (order_fault whole x.0) (cert_in p)) (ended x) c (cert_in p) (ap (λ (o : Option ℕ). ordered o (cert_in p)) kept) (ap Ok (same_cert c))))))
@@ -174,19 +171,3 @@ none_is_refused bytes r given e is c file =
     let refused : reading bytes ≡ Err e = subst (λ (x : Result CertRecord (End CertRefusal)). Gives (λ c. c) x (reading bytes)) is given in
     let read : reading bytes ≡ Ok c = ap reading file.spelled ∙ cert_again c file.is_certificate in
     no_ok c e (sym read ∙ refused)
-
--- ---- what the code's draft keeps
-
-spelling_kept : (whole : ℕ) (body : List ℕ) (o : Option (List ℕ)) (x : Draft × List ℕ) → IsBytes body → after_all body ≡ o → is_none o ≡ false → draft_at whole body ≡ Ok x → HasSpelling x.0.cert
-spelling_kept whole body (Some rest) x fits all there read =
-    let found : Skipped entries_of body rest = parts_skip.there body rest fits all in
-    let made : IsDraftOf found.value rest x = draft_made whole found.value rest body x found.fit found.parts read in
-    subst (λ (y : Draft × List ℕ). HasSpelling y.0.cert) made.is (parts_spell found.value found.fit made.good)
-spelling_kept whole body None x fits all there read = absurd (cc)
-
-pub draft_has_spelling : (whole : ℕ) (body : List ℕ) (x : Draft × List ℕ) → IsBytes body → is_none (after_all body) ≡ false → draft_at whole body ≡ Ok x → HasSpelling x.0.cert
-draft_has_spelling whole body x fits there read = spelling_kept whole body (after_all body) x fits refl there read
-
-pub IsBytes-after : (n : ℕ) (bytes body : List ℕ) → IsBytes bytes → after n bytes ≡ Some body → IsBytes body
-IsBytes-after n bytes body fits e =
-    else_gives (ltb (length bytes) n) (Some (drop n bytes)) body e (λ _ is. let P : List ℕ → Type 0 = λ b. IsBytes b in subst P (some_is (drop n bytes) body is) (IsBytes-drop n bytes fits))

@@ -1,40 +1,19 @@
--- Reading items one after the other, as a loop does.
-use Rattle.std.proofs.Common.{◌≡◌, ℕ, suc, ◌-◌, ◌+◌, ◌≤◌, ◌<◌, List, [], ◌∷◌, ◌++◌, Ok, Err, refl, sym, ap, ◌∙◌, append_assoc, arith}
-use Rattle.std.proofs.lemmas.List.{append-nil}
-use Rattle.cairo_model.specs.Working.Answers.{Ends}
+-- Reading one more item of a list.
+use Rattle.std.proofs.Common.{◌≡◌, ℕ, suc, List, [], ◌∷◌, ◌++◌, Ok, Err, refl, ap, append_assoc}
 use Rattle.cairo_model.specs.Machine.Steps.{◌>>=◌}
-use Rattle.cairo_model.specs.declared.end.End.{End}
-use Rattle.cairo_model.specs.declared.end.End.TheVariants.{Refused, OutOfMemory}
 use Rattle.cert_format.specs.declared.refusal.CertRefusal.{CertRefusal}
-use Rattle.cert_format.specs.Working.Reading.{Reads, items_at}
+use Rattle.cert_format.specs.Reading.{Reads, items_at}
+use Rattle.cert_format.specs.Feeding.{with_front}
 
--- what was read before, and what is still read
-abbrev pub with_front : {A : Type 0} → List A → Reads (List A) → Reads (List A)
-with_front front read = read >>= λ x. Ok (front ++ x.0, x.1)
-
-regroup : {A : Type 0} (front : List A) (a : A) (read : Reads (List A)) → with_front front (read >>= λ x. Ok (a ∷ x.0, x.1)) ≡ with_front (front ++ a ∷ []) read
+pub regroup : {A : Type 0} (front : List A) (a : A) (read : Reads (List A)) → with_front front (read >>= λ x. Ok (a ∷ x.0, x.1)) ≡ with_front (front ++ a ∷ []) read
 regroup {A} front a (Ok x) = ap (λ (items : List A). Ok (items, x.1)) (simp append_assoc)
 regroup front a (Err r) = refl
 
-module _ {A : Type 0} (one : List ℕ → Reads A) (front : List A) (count i : ℕ) (bytes : List ℕ) (total : Reads (List A)) where
-  pub goes_on : (a : A) (after : List ℕ) → i < count → one bytes ≡ Ok (a, after) → with_front front (items_at one (count - i) bytes) ≡ total → with_front (front ++ a ∷ []) (items_at one (count - (i + 1)) after) ≡ total
+module _ {A : Type 0} (one : List ℕ → Reads A) (front : List A) (n : ℕ) (bytes : List ℕ) where
+  pub goes_on : (a : A) (behind : List ℕ) → one bytes ≡ Ok (a, behind) → with_front front (items_at one (suc n) bytes) ≡ with_front (front ++ a ∷ []) (items_at one n behind)
   unfolding items_at
-  goes_on a after lt h so_far =
-      let k : count - i ≡ suc (count - (i + 1)) = omega arith in
-      let step : with_front front (items_at one (count - i) bytes) ≡ with_front (front ++ a ∷ []) (items_at one (count - (i + 1)) after) = rw (k, h) (regroup front a (items_at one (count - (i + 1)) after)) in
-      sym step ∙ so_far
+  goes_on a behind is = rw is (regroup front a (items_at one n behind))
 
-  pub ends : (e : End CertRefusal) → i < count → Ends e (one bytes) → with_front front (items_at one (count - i) bytes) ≡ total → Ends e total
+  pub stops : (e : CertRefusal) → one bytes ≡ Err e → with_front front (items_at one (suc n) bytes) ≡ Err e
   unfolding items_at
-  ends OutOfMemory lt h so_far = tt
-  ends (Refused r) lt h so_far =
-      let k : count - i ≡ suc (count - (i + 1)) = omega arith in
-      let step : with_front front (items_at one (count - i) bytes) ≡ Err r = rw (k, h) refl in
-      sym so_far ∙ step
-
-  pub is_done : count ≤ i → with_front front (items_at one (count - i) bytes) ≡ total → total ≡ Ok (front, bytes)
-  unfolding items_at
-  is_done le so_far =
-      let k : count - i ≡ 0 = omega arith in
-      let step : with_front front (items_at one (count - i) bytes) ≡ Ok (front, bytes) = rw k (ap (λ (items : List A). Ok (items, bytes)) (append-nil front)) in
-      sym so_far ∙ step
+  stops e is = rw is refl

@@ -4,7 +4,7 @@ use Rattle.std.proofs.lemmas.Bool.{ltb-false, le-ltb}
 use Rattle.cairo_model.specs.Machine.FieldMemories.{FieldCell, addresses}
 use Rattle.cairo_model.proofs.Rising.{Chain, rise_of, chain_of}
 use Rattle.cairo_model.specs.Working.Keys.{is_after}
-use Rattle.cert_format.specs.Working.Reading.{Draft, fallen_at, falls, order_fault}
+use Rattle.cert_format.specs.Reading.{Draft, fallen_at, falls, order_fault}
 use Rattle.cert_format.specs.Working.Ordering.{IsOrdered}
 
 -- ---- the tests

@@ -8,7 +8,7 @@ use Rattle.cairo_model.specs.Machine.FieldMemories.{FieldCell}
 use Rattle.cairo_model.specs.Certificate.Records.{SpanRecord, MarkRecord}
 use Rattle.cairo_model.proofs.Outcomes.{and_then_gives, some_is}
 use Rattle.cairo_model.proofs.Bytes.{IsBytes}
-use Rattle.cert_format.specs.Working.Reading.{count_at, after, after_counted, after_mark, after_marks, after_lists, after_all}
+use Rattle.cert_format.specs.Reading.{count_at, bytes_after, after_counted, after_mark, after_marks, after_lists, after_all}
 use Rattle.cert_format.specs.Refusals.{Entry, FitsBytes, entries_bytes, Parts, counted_entries, span_entries, base_entries, mark_entries, cell_entries, state_entries, entries_of}
 use Rattle.cert_format.proofs.FieldLaws.{count_again}
 use Rattle.cert_format.proofs.EntryLaws.{in_two, IsBytes-behind, Fit, all_first, all_second, all_both}
@@ -26,7 +26,7 @@ same_row : (b : Bool) (n : ℕ) (behind : List ℕ) → option_and_then (after_c
 same_row true n behind = refl
 same_row false n behind = refl
 
-same_mark : (bytes : List ℕ) → in_turn (after 4) (after_counted 8) bytes ≡ after_mark bytes
+same_mark : (bytes : List ℕ) → in_turn (bytes_after 4) (after_counted 8) bytes ≡ after_mark bytes
 same_mark bytes = same_row (ltb (length bytes) 4) (from_be_bytes w32 (take 4 bytes)) (drop 4 bytes)
 
 -- what follows twice follows in turn
@@ -37,9 +37,9 @@ in_either None f g = refl
 mark_skip : IsSkip after_mark mark_entries
 mark_skip =
     let bases : IsSkip (after_counted 8) (counted_entries base_entries) = counted_skip base_entries 8 number_one number_row in
-    let pairs : IsSkip (in_turn (after 4) (after_counted 8)) (λ (x : ℕ × List ℕ). count_entries x.0 ++ counted_entries base_entries x.1) = pair_skip (after 4) count_entries (after_counted 8) (counted_entries base_entries) (row_skip count_entries 4 count_one count_row) bases in
-    let marks : IsSkip (in_turn (after 4) (after_counted 8)) mark_entries = view_skip (in_turn (after 4) (after_counted 8)) (λ (x : ℕ × List ℕ). count_entries x.0 ++ counted_entries base_entries x.1) mark_of (λ (m : MarkRecord). (m.row, m.bases)) (λ m. refl) (λ x. refl) pairs in
-    same_skip (in_turn (after 4) (after_counted 8)) after_mark mark_entries same_mark marks
+    let pairs : IsSkip (in_turn (bytes_after 4) (after_counted 8)) (λ (x : ℕ × List ℕ). count_entries x.0 ++ counted_entries base_entries x.1) = pair_skip (bytes_after 4) count_entries (after_counted 8) (counted_entries base_entries) (row_skip count_entries 4 count_one count_row) bases in
+    let marks : IsSkip (in_turn (bytes_after 4) (after_counted 8)) mark_entries = view_skip (in_turn (bytes_after 4) (after_counted 8)) (λ (x : ℕ × List ℕ). count_entries x.0 ++ counted_entries base_entries x.1) mark_of (λ (m : MarkRecord). (m.row, m.bases)) (λ m. refl) (λ x. refl) pairs in
+    same_skip (in_turn (bytes_after 4) (after_counted 8)) after_mark mark_entries same_mark marks
 
 -- so many tasks
 pub record Marks (n : ℕ) (bytes rest : List ℕ) : Type 0 where
@@ -98,8 +98,8 @@ tasks_skip = record {
       counted_there bytes n fits is (λ parts few.
       let marks : Marks n.0 n.1 rest = marks_there n.0 n.1 rest (IsBytes-behind bytes (to_be_bytes w32 n.0) n.1 fits parts) read in
       let ms = marks.value in
-      let counted : to_be_bytes w32 n.0 ++ n.1 ≡ to_be_bytes w32 (length ms) ++ (entries_bytes (flat_map mark_entries ms) ++ rest) = ap (λ (k : ℕ). to_be_bytes w32 k ++ n.1) (sym marks.many) ∙ ap (λ (t : List ℕ). to_be_bytes w32 (length ms) ++ t) marks.parts in
-      record { value = ms; parts = parts ∙ counted; fit = (omega (arith, marks.many, few), marks.fit) }));
+      let count_read : to_be_bytes w32 n.0 ++ n.1 ≡ to_be_bytes w32 (length ms) ++ (entries_bytes (flat_map mark_entries ms) ++ rest) = ap (λ (k : ℕ). to_be_bytes w32 k ++ n.1) (sym marks.many) ∙ ap (λ (t : List ℕ). to_be_bytes w32 (length ms) ++ t) marks.parts in
+      record { value = ms; parts = parts ∙ count_read; fit = (omega (arith, marks.many, few), marks.fit) }));
   again = λ ms rest fit.
       let tail = entries_bytes (flat_map mark_entries ms) ++ rest in
       option_goes (λ n. after_marks n.0 n.1) (count_at (to_be_bytes w32 (length ms) ++ tail)) (length ms, tail) rest (count_again (length ms) tail fit.0) (marks_again ms rest fit.1);
@@ -148,7 +148,7 @@ all_skip =
     let both = pair_skip (after_counted 16) (counted_entries cell_entries) (after_counted 24) (counted_entries state_entries) cells states in
     let lists = pair_skip after_tasks (counted_entries mark_entries) (in_turn (after_counted 16) (after_counted 24)) (λ (x : List FieldCell × List (Registers ℕ)). counted_entries cell_entries x.0 ++ counted_entries state_entries x.1) tasks_skip both in
     let body = same_skip (in_turn after_tasks (in_turn (after_counted 16) (after_counted 24))) after_lists body_entries same_lists lists in
-    pair_skip (after 49) head_entries after_lists body_entries (row_skip head_entries 49 (λ bytes. (get_or bytes 0 0, three_spans_one (drop 1 bytes))) head_row) body
+    pair_skip (bytes_after 49) head_entries after_lists body_entries (row_skip head_entries 49 (λ bytes. (get_or bytes 0 0, three_spans_one (drop 1 bytes))) head_row) body
 
 abbrev parts_of : Heads × Bodies → Parts
 parts_of x = record { kind_number = x.0.0; output = x.0.1.0; range = x.0.1.1.0; hash = x.0.1.1.1; tasks = x.1.0; cells = x.1.1.0; states = x.1.1.1 }

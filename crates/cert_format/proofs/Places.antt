@@ -9,7 +9,7 @@ use Rattle.cairo_model.proofs.Outcomes.{some_is, tested}
 use Rattle.cert_format.specs.declared.refusal.CertRefusal.{CertRefusal}
 use Rattle.cert_format.specs.declared.refusal.CertRefusal.TheVariants.{BadNumber}
 use Rattle.cert_format.specs.Working.Ordering.{IsOrdered}
-use Rattle.cert_format.specs.Working.Reading.{fallen_at, falls, order_fault}
+use Rattle.cert_format.specs.Reading.{fallen_at, falls, order_fault}
 use Rattle.cert_format.specs.Refusals.{Entry, entry_bytes, entries_bytes, IsGoodEntry, Parts, counted_entries, mark_entries, cell_entries, state_entries, front_entries, entries_of, IsLeast, IsBadAt, cell_place, IsFallenAt, IsStopBelow, IsUnorderedAt}
 use Rattle.cert_format.proofs.EntryLaws.{in_two, all_second}
 use Rattle.cert_format.proofs.Scanning.{FirstBad}
@@ -129,8 +129,8 @@ lists_len p rest =
     let cells = counted_entries cell_entries p.cells in
     let states = counted_entries state_entries p.states in
     let two : length (lists_bytes p rest) ≡ length (entries_bytes cells) + length (entries_bytes states ++ rest) = ap (λ (t : List ℕ). length t) (in_two cells states rest) ∙ length-append (entries_bytes cells) (entries_bytes states ++ rest) in
-    let counted : length (entries_bytes cells) ≡ 4 + length (entries_bytes (flat_map cell_entries p.cells)) = omega arith in
-    omega (arith, two, counted, cells_len p.cells)
+    let count_read : length (entries_bytes cells) ≡ 4 + length (entries_bytes (flat_map cell_entries p.cells)) = omega arith in
+    omega (arith, two, count_read, cells_len p.cells)
 
 no_stop_below : (stop_place place : ℕ) (s : SpanRecord) → falls s ≡ false → ¬ IsStopBelow stop_place s place
 no_stop_below stop_place place s stands below = absurd (omega (arith, below.1, ltb-false s.stop s.start stands))

@@ -10,7 +10,7 @@ use Rattle.cairo_model.specs.Certificate.Records.{CertKind, SpanRecord, MarkReco
 use Rattle.cairo_model.proofs.Outcomes.{ok_is}
 use Rattle.cert_format.specs.declared.refusal.CertRefusal.{CertRefusal}
 use Rattle.cert_format.specs.declared.refusal.CertRefusal.TheVariants.{Truncated, BadNumber}
-use Rattle.cert_format.specs.Working.Reading.{Reads, place_of, counted, felt_at, kind_at, span_at, items_at, list_at, mark_at, is_alone, task_count_at, cell_at, state_at, Draft, draft_at}
+use Rattle.cert_format.specs.Reading.{Reads, place_of, count_read, felt_at, kind_at, span_at, items_at, list_at, mark_at, is_alone, task_count_at, cell_numbers_at, state_at, Draft, draft_at}
 use Rattle.cert_format.specs.Refusals.{IsGoodEntry, Entry, FitsBytes, kind, task_count, count, number, entries_bytes, Parts, entries_of, counted_entries, span_entries, base_entries, mark_entries, cell_entries, state_entries}
 use Rattle.cert_format.proofs.FieldLaws.{number_again, count_again}
 use Rattle.cert_format.proofs.EntryLaws.{in_two, Fit, all_first, all_second}
@@ -29,7 +29,7 @@ felt_scans whole n rest lt =
 base_scans : (whole : ℕ) → Scans whole (felt_at whole) base_entries
 base_scans whole n rest fit = felt_scans whole n rest fit.0
 
-count_scans : (whole n : ℕ) (rest : List ℕ) → n < 2 ^ 32 → counted whole (to_be_bytes w32 n ++ rest) ≡ scan whole (count n ∷ []) rest (Ok (n, rest))
+count_scans : (whole n : ℕ) (rest : List ℕ) → n < 2 ^ 32 → count_read whole (to_be_bytes w32 n ++ rest) ≡ scan whole (count n ∷ []) rest (Ok (n, rest))
 unfolding scan is_good
 count_scans whole n rest lt = ap (required (Truncated whole)) (count_again n rest lt)
 
@@ -56,7 +56,7 @@ module _ {A : Type 0} (whole : ℕ) (one : List ℕ → Reads A) (entries : A �
   list_scans xs rest fit =
       let fs = flat_map entries xs in
       let tail = entries_bytes fs ++ rest in
-      scan_then whole (count (length xs) ∷ []) fs rest (counted whole (to_be_bytes w32 (length xs) ++ tail)) (λ n. items_at one n.0 n.1) (length xs) (Ok (xs, rest)) (count_scans whole (length xs) tail fit.0) (items_scan xs rest fit.1)
+      scan_then whole (count (length xs) ∷ []) fs rest (count_read whole (to_be_bytes w32 (length xs) ++ tail)) (λ n. items_at one n.0 n.1) (length xs) (Ok (xs, rest)) (count_scans whole (length xs) tail fit.0) (items_scan xs rest fit.1)
 
 -- ---- spans, cells, states and marks
 
@@ -69,8 +69,8 @@ span_scans whole s rest fit =
     (felt_scans whole s.start tail fit.0)
     (scan_then whole (number s.stop ∷ []) [] rest (felt_at whole tail) last s.stop (Ok (s, rest)) (felt_scans whole s.stop rest fit.1.0) refl)
 
-pub cell_scans : (whole : ℕ) → Scans whole (cell_at whole) cell_entries
-unfolding cell_at scan
+pub cell_scans : (whole : ℕ) → Scans whole (cell_numbers_at whole) cell_entries
+unfolding cell_numbers_at scan
 cell_scans whole c rest fit =
     let tail = to_be_bytes w64 c.1 ++ rest in
     let last : ℕ × List ℕ → Reads FieldCell = λ value. Ok ((c.0, value.0), value.1) in
@@ -97,7 +97,7 @@ mark_scans whole m rest fit =
     let tail = entries_bytes fs ++ rest in
     let last : List ℕ × List ℕ → Reads MarkRecord = λ bases. Ok (record { row = m.row; bases = bases.0 }, bases.1) in
     let bases : list_at whole (felt_at whole) tail ≡ scan whole fs rest (Ok (m.bases, rest)) = list_scans whole (felt_at whole) base_entries (base_scans whole) m.bases rest fit.1 in
-    scan_then whole (count m.row ∷ []) fs rest (counted whole (to_be_bytes w32 m.row ++ tail)) (λ row. list_at whole (felt_at whole) row.1 >>= λ b. Ok (record { row = row.0; bases = b.0 }, b.1)) m.row (Ok (m, rest))
+    scan_then whole (count m.row ∷ []) fs rest (count_read whole (to_be_bytes w32 m.row ++ tail)) (λ row. list_at whole (felt_at whole) row.1 >>= λ b. Ok (record { row = row.0; bases = b.0 }, b.1)) m.row (Ok (m, rest))
     (count_scans whole m.row tail fit.0)
     (ap (λ (r : Reads (List ℕ)). r >>= last) bases ∙ scan_bind whole fs rest (Ok (m.bases, rest)) last)
 
@@ -128,28 +128,28 @@ cert_of k o r h t c s = record { kind = k; output = o; range = r; hash = h; task
 abbrev draft_of : CertRecord → ℕ → Draft
 draft_of c n = record { cert = c; from_cells = n }
 
-abbrev with_states : CertKind → SpanRecord → SpanRecord → SpanRecord → List MarkRecord × List ℕ → List FieldCell → List (Registers ℕ) × List ℕ → Reads Draft
+abbrev pub with_states : CertKind → SpanRecord → SpanRecord → SpanRecord → List MarkRecord × List ℕ → List FieldCell → List (Registers ℕ) × List ℕ → Reads Draft
 with_states k o r h t c s = Ok (draft_of (cert_of k o r h t.0 c s.0) (length t.1 - 4), s.1)
 
-abbrev with_cells : ℕ → CertKind → SpanRecord → SpanRecord → SpanRecord → List MarkRecord × List ℕ → List FieldCell × List ℕ → Reads Draft
+abbrev pub with_cells : ℕ → CertKind → SpanRecord → SpanRecord → SpanRecord → List MarkRecord × List ℕ → List FieldCell × List ℕ → Reads Draft
 with_cells whole k o r h t c = list_at whole (state_at whole) c.1 >>= with_states k o r h t c.0
 
-abbrev with_tasks : ℕ → CertKind → SpanRecord → SpanRecord → SpanRecord → List MarkRecord × List ℕ → Reads Draft
-with_tasks whole k o r h t = list_at whole (cell_at whole) t.1 >>= with_cells whole k o r h t
+abbrev pub with_tasks : ℕ → CertKind → SpanRecord → SpanRecord → SpanRecord → List MarkRecord × List ℕ → Reads Draft
+with_tasks whole k o r h t = list_at whole (cell_numbers_at whole) t.1 >>= with_cells whole k o r h t
 
-abbrev with_count : ℕ → CertKind → SpanRecord → SpanRecord → SpanRecord → ℕ × List ℕ → Reads Draft
+abbrev pub with_count : ℕ → CertKind → SpanRecord → SpanRecord → SpanRecord → ℕ × List ℕ → Reads Draft
 with_count whole k o r h n = items_at (mark_at whole) n.0 n.1 >>= with_tasks whole k o r h
 
-abbrev with_hash : ℕ → CertKind → SpanRecord → SpanRecord → SpanRecord × List ℕ → Reads Draft
+abbrev pub with_hash : ℕ → CertKind → SpanRecord → SpanRecord → SpanRecord × List ℕ → Reads Draft
 with_hash whole k o r h = task_count_at whole k h.1 >>= with_count whole k o r h.0
 
-abbrev with_range : ℕ → CertKind → SpanRecord → SpanRecord × List ℕ → Reads Draft
+abbrev pub with_range : ℕ → CertKind → SpanRecord → SpanRecord × List ℕ → Reads Draft
 with_range whole k o r = span_at whole r.1 >>= with_hash whole k o r.0
 
-abbrev with_output : ℕ → CertKind → SpanRecord × List ℕ → Reads Draft
+abbrev pub with_output : ℕ → CertKind → SpanRecord × List ℕ → Reads Draft
 with_output whole k o = span_at whole o.1 >>= with_range whole k o.0
 
-abbrev with_kind : ℕ → CertKind × List ℕ → Reads Draft
+abbrev pub with_kind : ℕ → CertKind × List ℕ → Reads Draft
 with_kind whole k = span_at whole k.1 >>= with_output whole k.0
 
 -- ---- all of it
@@ -188,8 +188,8 @@ draft_scans whole p rest fit =
     let last : List (Registers ℕ) × List ℕ → Reads Draft = with_states k p.output p.range p.hash t p.cells in
     let read_states : list_at whole (state_at whole) (entries_bytes states ++ rest) >>= last ≡ scan whole states rest end =
     ap (λ (r : Reads (List (Registers ℕ))). r >>= last) (list_scans whole (state_at whole) state_entries (state_scans whole) p.states rest (all_second FitsBytes cells states f5)) ∙ scan_bind whole states rest (Ok (p.states, rest)) last in
-    let read_cells : list_at whole (cell_at whole) (entries_bytes e5 ++ rest) ≡ scan whole cells (entries_bytes states ++ rest) (Ok (p.cells, entries_bytes states ++ rest)) =
-    ap (list_at whole (cell_at whole)) (in_two cells states rest) ∙ list_scans whole (cell_at whole) cell_entries (cell_scans whole) p.cells (entries_bytes states ++ rest) (all_first FitsBytes cells states f5) in
+    let read_cells : list_at whole (cell_numbers_at whole) (entries_bytes e5 ++ rest) ≡ scan whole cells (entries_bytes states ++ rest) (Ok (p.cells, entries_bytes states ++ rest)) =
+    ap (list_at whole (cell_numbers_at whole)) (in_two cells states rest) ∙ list_scans whole (cell_numbers_at whole) cell_entries (cell_scans whole) p.cells (entries_bytes states ++ rest) (all_first FitsBytes cells states f5) in
     let read_marks : items_at (mark_at whole) (length p.tasks) (entries_bytes e4 ++ rest) ≡ scan whole marks (entries_bytes e5 ++ rest) (Ok t) =
     ap (items_at (mark_at whole) (length p.tasks)) (in_two marks e5 rest) ∙ items_scan whole (mark_at whole) mark_entries (mark_scans whole) p.tasks (entries_bytes e5 ++ rest) (all_first FitsBytes marks e5 f3.1) in
     scan_then whole (kind p.kind_number ∷ []) e0 rest (kind_at whole (p.kind_number ∷ (entries_bytes e0 ++ rest))) (with_kind whole) k end (kind_scans whole p.kind_number (entries_bytes e0 ++ rest))
@@ -198,7 +198,7 @@ draft_scans whole p rest fit =
     (scan_then whole (span_entries p.hash) e3 rest (span_at whole (entries_bytes e2 ++ rest)) (with_hash whole k p.output p.range) p.hash end (span_scans whole p.hash (entries_bytes e3 ++ rest) (all_first FitsBytes (span_entries p.hash) e3 f2))
     (scan_then whole (task_count p.kind_number (length p.tasks) ∷ []) e4 rest (task_count_at whole k (entries_bytes e3 ++ rest)) (with_count whole k p.output p.range p.hash) (length p.tasks) end (task_count_scans whole p.kind_number (length p.tasks) (entries_bytes e4 ++ rest) f3.0)
     (scan_then whole marks e5 rest (items_at (mark_at whole) (length p.tasks) (entries_bytes e4 ++ rest)) (with_tasks whole k p.output p.range p.hash) p.tasks end read_marks
-    (scan_then whole cells states rest (list_at whole (cell_at whole) (entries_bytes e5 ++ rest)) (with_cells whole k p.output p.range p.hash t) p.cells end read_cells read_states))))))
+    (scan_then whole cells states rest (list_at whole (cell_numbers_at whole) (entries_bytes e5 ++ rest)) (with_cells whole k p.output p.range p.hash t) p.cells end read_cells read_states))))))
 
 -- a draft of parts whose numbers are good
 pub record IsDraftOf (p : Parts) (rest : List ℕ) (x : Draft × List ℕ) : Type 0 where

@@ -8,7 +8,7 @@ use Rattle.cairo_model.specs.Certificate.Records.{CertKind, alone, batch}
 use Rattle.cairo_model.proofs.Outcomes.{then_ok, tested, err_is, not_true, not_false}
 use Rattle.cert_format.specs.declared.refusal.CertRefusal.{CertRefusal}
 use Rattle.cert_format.specs.declared.refusal.CertRefusal.TheVariants.{BadNumber}
-use Rattle.cert_format.specs.Working.Reading.{Reads, place_of, is_alone}
+use Rattle.cert_format.specs.Reading.{Reads, place_of, is_alone}
 use Rattle.cert_format.specs.Refusals.{Entry, kind, task_count, count, number, entry_bytes, entries_bytes, IsGoodEntry}
 use Rattle.cert_format.proofs.EntryLaws.{in_two}
 

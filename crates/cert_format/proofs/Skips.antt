@@ -5,7 +5,7 @@ use Rattle.std.specs.Int.{w32, to_be_bytes, from_be_bytes}
 use Rattle.std.specs.List.{flat_map}
 use Rattle.std.proofs.lemmas.Bool.{ltb-false}
 use Rattle.std.proofs.lemmas.List.{drop_at, drop-drop}
-use Rattle.cert_format.specs.Working.Reading.{count_at, after, after_counted}
+use Rattle.cert_format.specs.Reading.{count_at, bytes_after, after_counted}
 use Rattle.cert_format.specs.Refusals.{Entry, FitsBytes, entries_bytes, counted_entries}
 use Rattle.cert_format.proofs.FieldLaws.{count_again}
 use Rattle.cert_format.proofs.EntryLaws.{in_two, IsBytes-behind, Fit, all_first, all_second, all_both}
@@ -27,7 +27,7 @@ pub record IsSkip {A : Type 0} (skip : List ℕ → Option (List ℕ)) (entries 
 pub one_rest : {A : Type 0} (skip : List ℕ → Option (List ℕ)) (entries : A → List Entry) (is : IsSkip skip entries) (a b : A) (r s : List ℕ) → Fit (entries a) → Fit (entries b) → entries_bytes (entries a) ++ r ≡ entries_bytes (entries b) ++ s → r ≡ s
 one_rest skip entries is a b r s fit_a fit_b same = some_is r s (sym (is.again a r fit_a) ∙ ap skip same ∙ is.again b s fit_b)
 
-pub row_skip : {A : Type 0} (entries : A → List Entry) (size : ℕ) (one : List ℕ → A) → IsRow entries size one → IsSkip (after size) entries
+pub row_skip : {A : Type 0} (entries : A → List Entry) (size : ℕ) (one : List ℕ → A) → IsRow entries size one → IsSkip (bytes_after size) entries
 row_skip entries size one row = record {
   there = λ bytes rest fits e.
       else_gives (ltb (length bytes) size) (Some (drop size bytes)) rest e (λ long is.
@@ -159,7 +159,7 @@ module _ {A : Type 0} (entries : A → List Entry) (size : ℕ) (one : List ℕ 
       omega (arith, whole, length-append (entries_bytes (es ++ fs)) [], length-append (entries_bytes fs) [], row.len a, rows_len xs)
 
   -- so many of them
-  rows_skipped : (n : ℕ) (bytes rest : List ℕ) → IsBytes bytes → after (size * n) bytes ≡ Some rest → bytes ≡ entries_bytes (flat_map entries (rows n bytes)) ++ rest
+  rows_skipped : (n : ℕ) (bytes rest : List ℕ) → IsBytes bytes → bytes_after (size * n) bytes ≡ Some rest → bytes ≡ entries_bytes (flat_map entries (rows n bytes)) ++ rest
   rows_skipped n bytes rest fits e =
       else_gives (ltb (length bytes) (size * n)) (Some (drop (size * n) bytes)) rest e (λ long is.
       rows_there n bytes fits (ltb-false (length bytes) (size * n) long) ∙ ap (λ (t : List ℕ). entries_bytes (flat_map entries (rows n bytes)) ++ t) (some_is (drop (size * n) bytes) rest is))
@@ -168,17 +168,17 @@ module _ {A : Type 0} (entries : A → List Entry) (size : ℕ) (one : List ℕ 
   pub counted_skip : IsSkip (after_counted size) (counted_entries entries)
   counted_skip = record {
     there = λ bytes rest fits e.
-        and_then_gives (count_at bytes) (λ n. after (size * n.0) n.1) rest e (λ n is read.
+        and_then_gives (count_at bytes) (λ n. bytes_after (size * n.0) n.1) rest e (λ n is read.
         counted_there bytes n fits is (λ parts few.
         let tail_fits : IsBytes n.1 = IsBytes-behind bytes (to_be_bytes w32 n.0) n.1 fits parts in
         let xs = rows n.0 n.1 in
         let many : length xs ≡ n.0 = rows_count n.0 n.1 in
         let behind : n.1 ≡ entries_bytes (flat_map entries xs) ++ rest = rows_skipped n.0 n.1 rest tail_fits read in
-        let counted : to_be_bytes w32 n.0 ++ n.1 ≡ to_be_bytes w32 (length xs) ++ (entries_bytes (flat_map entries xs) ++ rest) = ap (λ (k : ℕ). to_be_bytes w32 k ++ n.1) (sym many) ∙ ap (λ (t : List ℕ). to_be_bytes w32 (length xs) ++ t) behind in
-        record { value = xs; parts = parts ∙ counted; fit = (omega (arith, many, few), rows_fit n.0 n.1 tail_fits) }));
+        let count_read : to_be_bytes w32 n.0 ++ n.1 ≡ to_be_bytes w32 (length xs) ++ (entries_bytes (flat_map entries xs) ++ rest) = ap (λ (k : ℕ). to_be_bytes w32 k ++ n.1) (sym many) ∙ ap (λ (t : List ℕ). to_be_bytes w32 (length xs) ++ t) behind in
+        record { value = xs; parts = parts ∙ count_read; fit = (omega (arith, many, few), rows_fit n.0 n.1 tail_fits) }));
     again = λ xs rest fit.
         let tail = entries_bytes (flat_map entries xs) ++ rest in
-        option_goes (λ n. after (size * n.0) n.1) (count_at (to_be_bytes w32 (length xs) ++ tail)) (length xs, tail) rest (count_again (length xs) tail fit.0) (after_again (size * length xs) (entries_bytes (flat_map entries xs)) rest (rows_len xs));
+        option_goes (λ n. bytes_after (size * n.0) n.1) (count_at (to_be_bytes w32 (length xs) ++ tail)) (length xs, tail) rest (count_again (length xs) tail fit.0) (after_again (size * length xs) (entries_bytes (flat_map entries xs)) rest (rows_len xs));
     one = λ xs ys r s fit_x fit_y same.
         let tail_x = entries_bytes (flat_map entries xs) ++ r in
         let tail_y = entries_bytes (flat_map entries ys) ++ s in

@@ -1,3 +1,5 @@
-pub mod Spelling
+pub mod Feeding
+pub mod Reading
 pub mod Refusals
+pub mod Spelling
 pub mod Working

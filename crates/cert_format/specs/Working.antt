@@ -1,3 +1,5 @@
-pub mod Reading
+pub mod Answers
 pub mod DraftViews
 pub mod Ordering
+pub mod Passing
+pub mod Taking

@@ -1,10 +1,11 @@
-ghost use Rattle.std.specs.Prelude.{◌≡◌, None, map};
+ghost use Rattle.std.specs.Prelude.{◌≡◌, ◌-◌, None, map};
 ghost use Rattle.cairo_model.specs.Machine.FieldMemories.{field_cell};
 ghost use Rattle.cairo_model.specs.Working.Keys.{is_after as comes_after};
-ghost use Rattle.cert_format.specs.Working.Reading.{falls as stop_falls, fallen_at, order_fault as order_fault_of};
-ghost use Rattle.cert_format.specs.Working.DraftViews.{draft as draft_of, stretch};
+ghost use Rattle.cert_format.specs.Reading.{falls as stop_falls, fallen_at, order_fault as order_fault_of};
+ghost use Rattle.cert_format.specs.Feeding.{draft_of};
+ghost use Rattle.cert_format.specs.Working.DraftViews.{partial as partial_of, stretch};
 
-use crate::draft::CertDraft;
+use crate::partial::Partial;
 use crate::parts::CELL_BYTES;
 use goldi_field::Felt;
 
@@ -16,19 +17,21 @@ const RANGE_STOP: u64 = 33;
 const HASH_STOP: u64 = 49;
 
 /// Where the first stop is that is below its start, or the first address that isn't above the one before.
-pub(crate) fn order_fault(whole: u64, draft: &CertDraft) -> Option<u64>
-    ensures { result ≡ order_fault_of whole (draft_of draft.now) }
+pub(crate) fn order_fault(whole: u64, partial: &Partial) -> Option<u64>
+    ensures { result ≡ order_fault_of whole (draft_of (whole - partial.now.marks_end) (partial_of partial.now)) }
 {
-    if falls(draft.output) {
+    let front = partial.front;
+    if falls(front.output) {
         return Some(OUTPUT_STOP);
     }
-    if falls(draft.range) {
+    if falls(front.range) {
         return Some(RANGE_STOP);
     }
-    if falls(draft.hash) {
+    if falls(front.hash) {
         return Some(HASH_STOP);
     }
-    fallen_address(whole, draft.from_cells, draft.cells.as_slice())
+    let left = whole.saturating_sub(partial.marks_end);
+    fallen_address(whole, left.saturating_sub(4), partial.cells.as_slice())
 }
 
 fn falls(span: (Felt, Felt)) -> bool

@@ -9,11 +9,15 @@ mod boot_text;
 #[cfg(test)]
 mod bootloader;
 #[cfg(test)]
+mod certificates;
+#[cfg(test)]
 mod field;
 #[cfg(test)]
 mod hash;
 #[cfg(test)]
 mod listings;
+#[cfg(test)]
+mod memory;
 #[cfg(test)]
 mod model;
 #[cfg(test)]

@@ -1,6 +1,6 @@
 use Rattle.std.proofs.Common.{◌≡◌, map, drop, None}
 use Rattle.cairo_model.specs.Machine.FieldMemories.{field_cell}
-use Rattle.cert_format.specs.Working.Reading.{fallen_at}
+use Rattle.cert_format.specs.Reading.{fallen_at}
 use Rattle.cert_format.proofs.order.fallen_address.Given as goal
 
 abbrev pub invariant-loop-address : goal.invariant-loop-address
