@@ -12,4 +12,5 @@ pub mod StretchLaws
 pub mod Laws
 pub mod Frames
 pub mod Batch
+pub mod Faults
 pub mod Working

@@ -1,0 +1,4 @@
+pub mod Records
+pub mod Rules
+pub mod Tasks
+pub mod Causes
