@@ -1,0 +1,13 @@
+pub mod Walking
+pub mod Cutting
+pub mod Stages
+pub mod Few
+pub mod Accepted
+pub mod Printed
+pub mod FaultLaws
+pub mod Standing
+pub mod Booting
+pub mod Groups
+pub mod Frames
+pub mod Showing
+pub mod Certified

@@ -1,0 +1,7 @@
+use Rattle.std.proofs.Common.{ℕ, ◌<◌, ◌+◌}
+use Rattle.boot_program.specs.Faults.Rules.{RangeCellAt}
+use Rattle.cairo_model.specs.Machine.FieldMemories.{cell_at}
+use Rattle.row_checker.proofs.spans.bad_range_cell.Given as goal
+
+abbrev pub invariant-loop-index : goal.invariant-loop-index
+invariant-loop-index l = (k : ℕ) → k < l.index → RangeCellAt (cell_at l.cells) (l.start.number + k)
