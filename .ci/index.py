@@ -114,7 +114,9 @@ class Specs:
     def resolved(self, text, imports, here=None):
         found = set()
         words = set(WORD.findall(text))
-        for word in words | {part for word in words for part in word.split(".")}:
+        # an operator stands between its operands, and has a place for each in its name
+        operators = {f"◌{word}◌" for word in words}
+        for word in words | operators | {part for word in words for part in word.split(".")}:
             target = imports.get(word)
             own = here and Definition(here.crate, here.module, word)
             if target in self.place:
