@@ -5,11 +5,15 @@
 #[cfg(test)]
 mod assembly;
 #[cfg(test)]
+mod batches;
+#[cfg(test)]
 mod boot_text;
 #[cfg(test)]
 mod bootloader;
 #[cfg(test)]
 mod certificates;
+#[cfg(test)]
+mod checking;
 #[cfg(test)]
 mod field;
 #[cfg(test)]
@@ -34,5 +38,7 @@ mod replays;
 mod steps;
 #[cfg(test)]
 mod texts;
+#[cfg(test)]
+mod vectors;
 #[cfg(test)]
 mod word;
