@@ -1,0 +1,14 @@
+pub mod Limits
+pub mod Desks
+pub mod Quotas
+pub mod NextBatch
+pub mod Next
+pub mod Journals
+pub mod Isolation
+pub mod SoundDesks
+pub mod RegisteredFacts
+pub mod DeskRecords
+pub mod GoodDesks
+pub mod Turns
+pub mod Kept
+pub mod Working

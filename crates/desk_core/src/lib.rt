@@ -1,0 +1,35 @@
+//! The desk on one thread: who submitted what, which batches were made, which facts stand, and the journal of all that happened.
+#![tactic(auto)]
+
+mod batch;
+mod desk;
+mod entry;
+mod event;
+mod job;
+mod laws;
+pub mod limits;
+mod new;
+mod offer;
+mod phase;
+mod quota;
+mod reads;
+mod reply;
+mod seal;
+mod submit;
+mod take;
+mod usage;
+
+pub use batch::Batch;
+pub use desk::Desk;
+pub use entry::{Entry, FullEntry};
+pub use event::{Event, OfferNote};
+pub use job::Job;
+pub use laws::{
+    cut_is_longest, isolation, journals_are_isolated, legal_is_kept, registry_law, sound_is_kept,
+};
+pub use offer::Offer;
+pub use phase::{JobPhase, Phase};
+pub use reply::{QuotaKind, Reply};
+
+#[cfg(test)]
+mod tests;
