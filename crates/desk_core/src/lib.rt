@@ -30,6 +30,3 @@ pub use laws::{
 pub use offer::Offer;
 pub use phase::{JobPhase, Phase};
 pub use reply::{QuotaKind, Reply};
-
-#[cfg(test)]
-mod tests;

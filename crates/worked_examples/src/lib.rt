@@ -15,6 +15,8 @@ mod certificates;
 #[cfg(test)]
 mod checking;
 #[cfg(test)]
+mod desk;
+#[cfg(test)]
 mod field;
 #[cfg(test)]
 mod hash;

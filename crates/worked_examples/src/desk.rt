@@ -1,5 +1,5 @@
-use crate::{Desk, Event, Offer, OfferNote, Reply};
 use cairo_model::{ReadRefusal, Refusal};
+use desk_core::{Desk, Event, Offer, OfferNote, Reply};
 use std::test::Fail;
 
 #[test]
