@@ -20,6 +20,12 @@ PROGRAM = os.path.join(TOP, "crates/shared_prover_cli/out/shared_prover_cli")
 LAUNCHER = os.path.join(TOP, "shared_prover")
 EXAMPLES = os.path.join(TOP, "examples")
 
+BATCH = (
+    b"accepted batch 364 outputs 3 9 1256366875 4191841772 2390839014 1583650134 223931603 2708635364 "
+    b"2656205228 3851522439 10 1682648198 4276435530 3557564911 2699579982 885479782 3474128063 "
+    b"3852709440 3500719293 5 10 1682648198 4276435530 3557564911 2699579982 885479782 3474128063 "
+    b"3852709440 3500719293 5\n"
+)
 ADMITTED = b"admitted program 644b2c86fee53a4ad40c21efa0e8524e34c75966cf12fcbfe5a3ae40d0a8bcbd outputs 5\n"
 USAGE = b"shared_prover: usage: shared_prover replay | place | list | check | boot\n"
 UNREADABLE = b"shared_prover: the input could not be read\n"
@@ -60,6 +66,7 @@ def try_examples(five):
     expect("place of an example", run(["place"], input=five), (0, example("five.cert"), b""))
     expect("list of an example", run(["list"], input=five), (0, example("five.listing"), b""))
     expect("check of an example", run(["check"], input=example("five.cert")), (0, b"accepted alone 6 outputs 5\n", b""))
+    expect("check of a batch", run(["check"], input=example("batch.cert")), (0, BATCH, b""))
     expect("replay of no bytes", run(["replay"]), (1, b"refused 3 0\n", b""))
     expect("place of a refused file", run(["place"], input=example("addr.pie")), (1, b"refused 26 0 9\n", b""))
     expect("list of a refused file", run(["list"], input=example("addr.pie")), (1, b"refused 26 0 9\n", b""))

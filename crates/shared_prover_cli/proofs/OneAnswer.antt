@@ -1,15 +1,17 @@
 -- A command has one answer to an input, and none has the status of a script.
-use Rattle.std.proofs.Common.{◌≡◌, ◌≢◌, ℕ, ◌+◌, List, length, slice_index, refl, sym, ap, subst, ◌∙◌, arith}
+use Rattle.std.proofs.Common.{◌≡◌, ◌≢◌, ℕ, ◌+◌, List, length, slice_index, sym, ap, subst, ◌∙◌, arith}
 use Rattle.std.proofs.lemmas.List.{ext_get_or}
 use Rattle.cairo_model.specs.Pie.Acceptance.{CheckedRecord}
 use Rattle.cairo_model.specs.Certificate.Records.{CertRecord, SpanRecord}
 use Rattle.cairo_model.specs.Machine.FieldMemories.{FieldCell}
-use Rattle.cairo_model.specs.Certificate.Acceptance.{MachineAccepts, SpanHolds}
+use Rattle.cairo_model.specs.Certificate.Acceptance.{SpanHolds}
 use Rattle.cairo_model.specs.Refusals.Verdicts.{Verdict, IsVerdict, admitted, no_file, not_alone}
 use Rattle.cairo_model.specs.Pie.Records.{segment_size}
 use Rattle.cairo_model.specs.Segments.{program_segment}
 use Rattle.cairo_model.proofs.Outcomes.{some_is}
 use Rattle.cairo_model.proofs.RunLaws.{one_content}
+use Rattle.boot_program.specs.Faults.Causes.{AcceptsRun, IsFirstRunFault}
+use Rattle.boot_program.specs.Faults.Records.{FaultCause}
 use Rattle.casm_text.specs.Listings.{IsListing, Lists, listing_text}
 use Rattle.casm_text.specs.Statements.{Statement}
 use Rattle.cert_format.specs.Refusals.{IsFirstCertCause}
@@ -18,15 +20,13 @@ use Rattle.cert_format.specs.declared.refusal.CertRefusal.{CertRefusal}
 use Rattle.relocator.specs.LoneCertificates.{IsLoneCertificate}
 use Rattle.shared_prover_cli.specs.Answers.List.{IsListedFor}
 use Rattle.shared_prover_cli.specs.Answers.Place.{IsPlaced}
-use Rattle.shared_prover_cli.specs.Answers.Check.{CheckAnswer, IsCheckOf, IsOfOnePie, accepted, faulty, no_certificate, not_built}
+use Rattle.shared_prover_cli.specs.Answers.Check.{CheckAnswer, IsCheckOf, accepted, faulty, no_certificate}
 use Rattle.shared_prover_cli.specs.Answers.CheckTexts.{check_status, check_text}
 use Rattle.shared_prover_cli.specs.Commands.{AnswerOf}
-use Rattle.shared_prover_cli.specs.FaultCauses.{IsFirstFault}
 use Rattle.shared_prover_cli.specs.Replies.{ReplyRecord}
 use Rattle.shared_prover_cli.specs.Texts.{verdict_status, verdict_text}
 use Rattle.shared_prover_cli.specs.declared.command.Command.{Command}
 use Rattle.shared_prover_cli.specs.declared.command.Command.TheVariants as commands
-use Rattle.shared_prover_cli.proofs.FaultLaws.{one_first_fault}
 
 one_list : (cells : List FieldCell) (span : SpanRecord) (xs ys : List ℕ) → SpanHolds cells span xs → SpanHolds cells span ys → xs ≡ ys
 one_list cells span xs ys p q =
@@ -45,10 +45,13 @@ OneCertificate = (bytes : List ℕ) (c d : CertRecord) → CertBytes bytes c →
 abbrev pub OneRefusal : Type 0
 OneRefusal = (bytes : List ℕ) (r s : CertRefusal) → IsFirstCertCause bytes r → IsFirstCertCause bytes s → r ≡ s
 
+abbrev pub OneFault : Type 0
+OneFault = (cert : CertRecord) (c d : FaultCause) → IsFirstRunFault cert c → IsFirstRunFault cert d → c ≡ d
+
 abbrev pub OneListing : Type 0
 OneListing = (words : List ℕ) (ss others : List Statement) → Lists words ss → Lists words others → ss ≡ others
 
-module _ (one_verdict : OneVerdict) (one_placement : OnePlacement) (one_certificate : OneCertificate) (one_refusal : OneRefusal) (one_listing : OneListing) where
+module _ (one_verdict : OneVerdict) (one_placement : OnePlacement) (one_certificate : OneCertificate) (one_refusal : OneRefusal) (one_fault : OneFault) (one_listing : OneListing) where
   -- ---- check
 
   module _ (bytes : List ℕ) where
@@ -58,26 +61,20 @@ module _ (one_verdict : OneVerdict) (one_placement : OnePlacement) (one_certific
 
     one_check : (a b : CheckAnswer) → IsCheckOf bytes a → IsCheckOf bytes b → a ≡ b
     one_check (no_certificate r) (no_certificate s) p q = ap no_certificate (one_refusal bytes r s p.0 q.0)
-    one_check (no_certificate r) not_built p q = absurd (p.1 q.0 q.1.0)
     one_check (no_certificate r) (faulty f) p q = absurd (p.1 q.0 q.1.0)
-    one_check (no_certificate r) (accepted n xs) p q = absurd (p.1 q.0 q.1.0)
-    one_check not_built (no_certificate s) p q = absurd (q.1 p.0 p.1.0)
-    one_check not_built not_built p q = refl
-    one_check not_built (faulty f) p q = absurd (p.1.1 (moved IsOfOnePie q.0 p.0 q.1.0 p.1.0 q.1.1.0))
-    one_check not_built (accepted n xs) p q = absurd (p.1.1 (moved IsOfOnePie q.0 p.0 q.1.0 p.1.0 q.1.1.0))
+    one_check (no_certificate r) (accepted k n xs) p q = absurd (p.1 q.0 q.1.0)
     one_check (faulty f) (no_certificate s) p q = absurd (q.1 p.0 p.1.0)
-    one_check (faulty f) not_built p q = absurd (q.1.1 (moved IsOfOnePie p.0 q.0 p.1.0 q.1.0 p.1.1.0))
-    one_check (faulty f) (faulty g) p q = ap faulty (one_first_fault q.0 f g (moved (λ c. IsFirstFault c f) p.0 q.0 p.1.0 q.1.0 p.1.1.1.0) q.1.1.1.0)
-    one_check (faulty f) (accepted n xs) p q = absurd (p.1.1.1.1 (moved MachineAccepts q.0 p.0 q.1.0 p.1.0 q.1.1.1.0))
-    one_check (accepted n xs) (no_certificate s) p q = absurd (q.1 p.0 p.1.0)
-    one_check (accepted n xs) not_built p q = absurd (q.1.1 (moved IsOfOnePie p.0 q.0 p.1.0 q.1.0 p.1.1.0))
-    one_check (accepted n xs) (faulty g) p q = absurd (q.1.1.1.1 (moved MachineAccepts p.0 q.0 p.1.0 q.1.0 p.1.1.1.0))
-    one_check (accepted n xs) (accepted m ys) p q =
+    one_check (faulty f) (faulty g) p q = ap faulty (one_fault q.0 f g (moved (λ c. IsFirstRunFault c f) p.0 q.0 p.1.0 q.1.0 p.1.1.0) q.1.1.0)
+    one_check (faulty f) (accepted k n xs) p q = absurd (p.1.1.1 (moved AcceptsRun q.0 p.0 q.1.0 p.1.0 q.1.1.1.0))
+    one_check (accepted k n xs) (no_certificate s) p q = absurd (q.1 p.0 p.1.0)
+    one_check (accepted k n xs) (faulty f) p q = absurd (q.1.1.1 (moved AcceptsRun p.0 q.0 p.1.0 q.1.0 p.1.1.1.0))
+    one_check (accepted k n xs) (accepted l m ys) p q =
+        let kinds : k ≡ l = sym (moved (λ c. c.kind ≡ k) p.0 q.0 p.1.0 q.1.0 p.1.1.0) ∙ q.1.1.0 in
         let count : length q.0.states ≡ n + 1 = moved (λ c. length c.states ≡ n + 1) p.0 q.0 p.1.0 q.1.0 p.1.1.1.1.0 in
         let holds : SpanHolds q.0.cells q.0.output xs = moved (λ c. SpanHolds c.cells c.output xs) p.0 q.0 p.1.0 q.1.0 p.1.1.1.1.1 in
         let steps : n ≡ m = omega (arith, count, q.1.1.1.1.0) in
         let outputs : xs ≡ ys = one_list q.0.cells q.0.output xs ys holds q.1.1.1.1.1 in
-        λ i. accepted (steps i) (outputs i)
+        λ i. accepted (kinds i) (steps i) (outputs i)
 
   -- ---- place
 
@@ -127,8 +124,7 @@ no_verdict (not_alone cause) = λ e. omega (arith, e)
 no_verdict (admitted found) = λ e. omega (arith, e)
 
 no_check : (a : CheckAnswer) → check_status a ≢ 3
-no_check (accepted steps outputs) = λ e. omega (arith, e)
-no_check not_built = λ e. omega (arith, e)
+no_check (accepted kind steps outputs) = λ e. omega (arith, e)
 no_check (no_certificate refusal) = λ e. omega (arith, e)
 no_check (faulty fault) = λ e. omega (arith, e)
 

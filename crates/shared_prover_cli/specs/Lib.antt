@@ -1,7 +1,6 @@
 pub mod Answers
 pub mod Commands
 pub mod Exits
-pub mod FaultCauses
 pub mod Faults
 pub mod Limits
 pub mod MemoryStreams

@@ -1,4 +1,3 @@
+pub mod Checking
 pub mod Replies
-pub mod RunFaults
-pub mod SpanFaults
 pub mod Writings

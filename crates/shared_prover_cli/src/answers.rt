@@ -16,9 +16,10 @@ use crate::answers::replay::replay_answer;
 use crate::command::Command;
 use crate::reply::Reply;
 use std::alloc::{AllocError, Global};
+use std::thread::Threads;
 
 /// What a command answers to an input. Those that check rows are given the runtime.
-pub fn answer_to<R: Sync>(
+pub fn answer_to<R: Threads + Sync>(
     rt: &R,
     alloc: Global,
     command: Command,

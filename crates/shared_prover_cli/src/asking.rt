@@ -1,9 +1,14 @@
 use crate::memory::{MemSink, MemSource};
 use crate::run::run_plain;
 use std::test::Fail;
+use std::thread::Threads;
 
 /// What a command ends with over these bytes, and what it writes.
-pub fn answer(rt: &HostRuntime, word: &str, bytes: Vec<u8>) -> Result<(u8, Vec<u8>), Fail> {
+pub fn answer(
+    rt: &(impl Threads + Sync + AllocGlobal),
+    word: &str,
+    bytes: Vec<u8>,
+) -> Result<(u8, Vec<u8>), Fail> {
     let mut words = Vec::new(rt.alloc());
     words.push(word.to_string(rt.alloc())?)?;
     let mut source = MemSource::new(bytes, 1000, Vec::new(rt.alloc()));

@@ -7,6 +7,7 @@ use crate::vectors::{
 use hex::decode;
 use std::alloc::Global;
 use std::test::Fail;
+use std::thread::Threads;
 
 // A certificate with other bytes at these places.
 fn changed(alloc: Global, digits: &str, changes: &[(usize, u8)]) -> Result<Vec<u8>, Fail> {
@@ -70,7 +71,7 @@ fn the_first_fault_is_named(rt: HostRuntime) -> Result<(), Fail> {
     for (at, byte, text) in [
         (0, 0, "refused certificate 1\n"),
         (8, 2, "refused certificate 3 8\n"),
-        (8, 1, "not built\n"),
+        (8, 1, "refused run 1 1\n"),
         (24, 19, "refused certificate 4 17\n"),
         (372, 16, "refused run 2 1\n"),
         (16, 19, "refused run 2 2\n"),
@@ -103,7 +104,11 @@ fn the_first_fault_is_named(rt: HostRuntime) -> Result<(), Fail> {
 }
 
 // The line that answers a certificate with other bytes at these places.
-fn line(rt: &HostRuntime, digits: &str, changes: &[(usize, u8)]) -> Result<Vec<u8>, Fail> {
+fn line(
+    rt: &(impl Threads + Sync + AllocGlobal),
+    digits: &str,
+    changes: &[(usize, u8)],
+) -> Result<Vec<u8>, Fail> {
     let bytes = changed(rt.alloc(), digits, changes)?;
     Ok(answer(rt, "check", bytes)?.1)
 }

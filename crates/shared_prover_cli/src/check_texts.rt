@@ -1,18 +1,25 @@
-ghost use Rattle.std.specs.Prelude.{◌≡◌, ◌++◌, OnOk, IfOk, map};
-ghost use Rattle.shared_prover_cli.specs.Answers.Check.{faulty, no_certificate, not_built};
-ghost use Rattle.shared_prover_cli.specs.Answers.CheckTexts.{accepted_text, cause_number, check_text, fault_text};
+ghost use Rattle.std.specs.Prelude.{◌≡◌, ◌++◌, OnOk, IfOk, map, option_map};
+ghost use Rattle.boot_program.specs.Faults.Records.{fault_cause};
+ghost use Rattle.cairo_model.specs.Views.Certificate.{kind_of};
+ghost use Rattle.shared_prover_cli.specs.Answers.Check.{faulty, no_certificate};
+ghost use Rattle.shared_prover_cli.specs.Answers.CheckTexts.{accepted_text, cause_number, check_text, fault_text, kind_text, optional_text};
 
-use crate::run_fault::{RowCause, RunFault};
-use cairo_model::{number_of_fault, put_number, put_numbers, put_pair};
+use boot_program::{RowCause, RunFault};
+use cairo_model::{Kind, Value, number_of_fault, put_number, put_numbers, put_pair, put_value};
 use cert_format::CertRefusal;
 use goldi_field::Felt;
 use std::alloc::{AllocError, Global};
 
-/// The line of a certificate that the machine accepts.
-pub fn accepted_line(alloc: Global, steps: u64, outputs: &[Felt]) -> Result<Vec<u8>, AllocError>
-    ensures { IfOk result (λ text. text.items ≡ accepted_text steps (map (λ f. f.number) outputs.now)) }
+/// The line of a certificate that is accepted.
+pub fn accepted_line(
+    alloc: Global,
+    kind: Kind,
+    steps: u64,
+    outputs: &[Felt],
+) -> Result<Vec<u8>, AllocError>
+    ensures { IfOk result (λ text. text.items ≡ accepted_text (kind_of kind) steps (map (λ f. f.number) outputs.now)) }
 {
-    let mut text = b"accepted alone".to_vec(alloc)?;
+    let mut text = kind_line(alloc, kind)?;
     put_number(alloc, &mut text, steps)?;
     text.extend_from_slice(b" outputs")?;
     put_numbers(alloc, &mut text, outputs)?;
@@ -20,11 +27,14 @@ pub fn accepted_line(alloc: Global, steps: u64, outputs: &[Felt]) -> Result<Vec<
     Ok(text)
 }
 
-/// The line of a certificate of a batch, which isn't checked yet.
-pub fn not_built_line(alloc: Global) -> Result<Vec<u8>, AllocError>
-    ensures { IfOk result (λ text. text.items ≡ check_text not_built) }
+// How the line of an accepted certificate begins.
+fn kind_line(alloc: Global, kind: Kind) -> Result<Vec<u8>, AllocError>
+    ensures { IfOk result (λ text. text.items ≡ kind_text (kind_of kind)) }
 {
-    b"not built\n".to_vec(alloc)
+    match kind {
+        Kind::Alone => b"accepted alone".to_vec(alloc),
+        Kind::Batch => b"accepted batch".to_vec(alloc),
+    }
 }
 
 /// The line of a refused certificate.
@@ -43,9 +53,9 @@ pub fn certificate_line(alloc: Global, refusal: CertRefusal) -> Result<Vec<u8>, 
     Ok(text)
 }
 
-/// The line of a certificate that the machine doesn't accept.
+/// The line of a certificate that isn't accepted.
 pub fn fault_line(alloc: Global, fault: RunFault) -> Result<Vec<u8>, AllocError>
-    ensures { IfOk result (λ text. text.items ≡ check_text (faulty fault)) }
+    ensures { IfOk result (λ text. text.items ≡ check_text (faulty (fault_cause fault))) }
 {
     let mut text = b"refused run".to_vec(alloc)?;
     put_fault(alloc, &mut text, fault)?;
@@ -55,9 +65,10 @@ pub fn fault_line(alloc: Global, fault: RunFault) -> Result<Vec<u8>, AllocError>
 
 // Appends the number of a fault and its fields.
 fn put_fault(alloc: Global, text: &mut Vec<u8>, fault: RunFault) -> Result<(), AllocError>
-    ensures { OnOk result (text.new.items ≡ text.old.items ++ fault_text fault) }
+    ensures { OnOk result (text.new.items ≡ text.old.items ++ fault_text (fault_cause fault)) }
 {
     match fault {
+        RunFault::Boot(address) => put_pair(alloc, text, 1, address),
         RunFault::Start(k) => put_pair(alloc, text, 2, u64::from(k)),
         RunFault::End(k) => put_pair(alloc, text, 3, u64::from(k)),
         RunFault::Range(i) => put_pair(alloc, text, 4, u64::from(i)),
@@ -66,10 +77,25 @@ fn put_fault(alloc: Global, text: &mut Vec<u8>, fault: RunFault) -> Result<(), A
             put_pair(alloc, text, 6, u64::from(n))?;
             put_number(alloc, text, number_of_cause(cause))
         }
-        RunFault::Output(i) => {
+        RunFault::Output(i, stands, wanted) => {
             put_pair(alloc, text, 7, u64::from(i))?;
-            text.extend_from_slice(b" - -")
+            put_optional(alloc, text, stands)?;
+            put_optional(alloc, text, wanted)
         }
+        RunFault::Task(i, place) => {
+            put_pair(alloc, text, 8, u64::from(i))?;
+            put_value(alloc, text, Value::At(place))
+        }
+    }
+}
+
+// Appends a number, or a dash where there is none, after one space.
+fn put_optional(alloc: Global, text: &mut Vec<u8>, number: Option<Felt>) -> Result<(), AllocError>
+    ensures { OnOk result (text.new.items ≡ text.old.items ++ optional_text (option_map (λ f. f.number) number)) }
+{
+    match number {
+        Some(number) => put_number(alloc, text, number.value()),
+        None => text.extend_from_slice(b" -"),
     }
 }
 

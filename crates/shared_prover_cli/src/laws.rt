@@ -1,27 +1,13 @@
-ghost use Rattle.std.specs.Prelude.{◌≡◌, ◌≢◌, ◌↔◌, ℕ, List};
-ghost use Rattle.cairo_model.specs.Certificate.Records.{CertRecord};
-ghost use Rattle.cairo_model.specs.Certificate.Acceptance.{MachineAccepts};
-ghost use Rattle.shared_prover_cli.specs.Answers.Check.{IsOfOnePie};
+ghost use Rattle.std.specs.Prelude.{◌≡◌, ◌≢◌, ℕ, List};
 ghost use Rattle.shared_prover_cli.specs.Commands.{AnswerOf};
-ghost use Rattle.shared_prover_cli.specs.FaultCauses.{IsFaultCause, IsFirstFault};
 ghost use Rattle.shared_prover_cli.specs.Replies.{ReplyRecord};
-ghost use Rattle.shared_prover_cli.specs.declared.run_fault.RunFault.{RunFault};
 
 use crate::command::Command;
 use casm_text::one_listing;
 use cert_format::{one_certificate, one_first_cert_cause};
 use pie_replay::one_verdict;
 use relocator::one_lone_certificate;
-
-/// A certificate has one first fault at most.
-pub fn one_first_fault()
-    ensures { (cert : CertRecord) (fault other : RunFault) → IsFirstFault cert fault → IsFirstFault cert other → fault ≡ other }
-{}
-
-/// The machine accepts a certificate of a PIE alone exactly where no cause applies.
-pub fn acceptance_by_causes()
-    ensures { (cert : CertRecord) → IsOfOnePie cert → (((fault : RunFault) → ¬ IsFaultCause cert fault) ↔ MachineAccepts cert) }
-{}
+use row_checker::one_first_run_fault;
 
 /// A command has one answer to an input: one status, and one text.
 pub fn one_answer()
@@ -32,6 +18,7 @@ pub fn one_answer()
     one_lone_certificate();
     one_certificate();
     one_first_cert_cause();
+    one_first_run_fault();
     one_listing();
 }
 

@@ -9,7 +9,6 @@ mod boot_tests;
 #[cfg(test)]
 mod check_tests;
 mod check_texts;
-mod checking;
 mod command;
 mod exits;
 #[cfg(test)]
@@ -29,8 +28,6 @@ mod reply;
 #[cfg(test)]
 mod roomy_tests;
 mod run;
-mod run_fault;
-mod spans;
 mod status;
 mod stream;
 mod sure;

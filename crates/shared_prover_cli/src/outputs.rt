@@ -1,14 +1,13 @@
-ghost use Rattle.std.specs.Prelude.{◌≡◌, map, IfOk, None};
-ghost use Rattle.cairo_model.specs.Certificate.Acceptance.{SpanHolds};
-ghost use Rattle.shared_prover_cli.specs.Working.SpanFaults.{absent_in};
+ghost use Rattle.std.specs.Prelude.{◌≡◌, map, IfOk};
+ghost use Rattle.cairo_model.specs.Certificate.Acceptance.{MachineAccepts, SpanHolds};
 
 use cairo_model::{Cert, felt_below};
 use goldi_field::Felt;
 use std::alloc::{AllocError, Global};
 
-/// The numbers of a certificate's output span, in order.
+/// The numbers of an accepted certificate's output span, in order.
 pub fn outputs_of(alloc: Global, cert: &Cert) -> Result<Vec<Felt>, AllocError>
-    requires { absent_in cert.now ≡ None }
+    requires { MachineAccepts cert.now }
     ensures { IfOk result (λ outputs. SpanHolds cert.now.cells cert.now.output (map (λ f. f.number) outputs.items)) }
 {
     let mut outputs = Vec::new(alloc);

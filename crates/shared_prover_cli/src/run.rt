@@ -12,9 +12,10 @@ use crate::status::Status;
 use crate::stream::{Sink, Source};
 use crate::whole::{InputFault, read_whole, write_whole};
 use std::alloc::{AllocError, Global};
+use std::thread::Threads;
 
 /// Runs the command that the words, which are the program's arguments, ask for.
-pub fn run_plain<R: Sync, S: Source, K: Sink>(
+pub fn run_plain<R: Threads + Sync, S: Source, K: Sink>(
     rt: &R,
     alloc: Global,
     words: &[String],

@@ -1,18 +1,27 @@
-ghost use Rattle.std.specs.Prelude.{◌≡◌, ◌↔◌, ◌-◌, IfOk, IsTrue, length};
-ghost use Rattle.shared_prover_cli.specs.Answers.Check.{IsOfOnePie};
+ghost use Rattle.std.specs.Prelude.{◌≡◌, ◌-◌, IfOk, length};
 ghost use Rattle.shared_prover_cli.specs.Answers.CheckTexts.{CheckLine};
+ghost use Rattle.cairo_model.specs.Certificate.Acceptance.{MachineAccepts};
+ghost use Rattle.shared_prover_cli.specs.Working.Checking.{AcceptedReply};
 ghost use Rattle.shared_prover_cli.specs.Working.Replies.{reply_view};
 
-use crate::check_texts::{accepted_line, certificate_line, fault_line, not_built_line};
-use crate::checking::run_fault;
+use crate::check_texts::{accepted_line, certificate_line, fault_line};
 use crate::outputs::outputs_of;
 use crate::reply::{Outcome, Reply};
-use cairo_model::{Cert, End, Kind};
+use cairo_model::{Cert, End};
 use cert_format::read_cert;
+use row_checker::{accepted_has_no_fault, check_run};
 use std::alloc::{AllocError, Global};
+use std::thread::Threads;
 
-/// Whether the machine accepts the certificate of a PIE alone that the input is.
-pub fn check_answer<R: Sync>(_rt: &R, alloc: Global, input: &[u8]) -> Result<Reply, AllocError>
+/// In how many chunks the rows of a certificate are checked, each in a thread of its own where there are processors.
+const CHUNKS: usize = 8;
+
+/// Whether the certificate that the input is is accepted, or else its first fault.
+pub fn check_answer<R: Threads + Sync>(
+    rt: &R,
+    alloc: Global,
+    input: &[u8],
+) -> Result<Reply, AllocError>
     ensures { IfOk result (λ reply. CheckLine input.now (reply_view reply)) }
 {
     let cert = match read_cert(alloc, input) {
@@ -20,16 +29,23 @@ pub fn check_answer<R: Sync>(_rt: &R, alloc: Global, input: &[u8]) -> Result<Rep
         Err(End::Refused(refusal)) => return Ok(refused(certificate_line(alloc, refusal)?)),
         Err(End::OutOfMemory) => return Err(AllocError),
     };
-    if !is_of_one_pie(&cert) {
-        return Ok(refused(not_built_line(alloc)?));
+    accepted_has_no_fault();
+    match check_run(rt, alloc, &cert, CHUNKS) {
+        Ok(()) => accepted(alloc, &cert),
+        Err(End::Refused(fault)) => Ok(refused(fault_line(alloc, fault)?)),
+        Err(End::OutOfMemory) => Err(AllocError),
     }
-    if let Some(fault) = run_fault(&cert) {
-        return Ok(refused(fault_line(alloc, fault)?));
-    }
-    let outputs = outputs_of(alloc, &cert)?;
+}
+
+// The reply to an accepted certificate.
+fn accepted(alloc: Global, cert: &Cert) -> Result<Reply, AllocError>
+    requires { MachineAccepts cert.now }
+    ensures { IfOk result (λ reply. AcceptedReply cert.now (reply_view reply)) }
+{
+    let outputs = outputs_of(alloc, cert)?;
     Ok(Reply {
         outcome: Outcome::Done,
-        text: accepted_line(alloc, steps_of(&cert), outputs.as_slice())?,
+        text: accepted_line(alloc, cert.kind, steps_of(cert), outputs.as_slice())?,
     })
 }
 
@@ -47,10 +63,4 @@ fn steps_of(cert: &Cert) -> u64
     ensures { result ≡ length cert.now.states - 1 }
 {
     (cert.states.len() as u64).saturating_sub(1)
-}
-
-fn is_of_one_pie(cert: &Cert) -> bool
-    ensures { IsTrue result ↔ IsOfOnePie cert.now }
-{
-    matches!(cert.kind, Kind::Alone)
 }

@@ -1,12 +1,11 @@
-use Rattle.std.proofs.Common.{◌≡◌, ◌+◌, None, Some, length, map, refl, ap, sym, ◌∙◌, arith, rules}
-use Rattle.shared_prover_cli.specs.Answers.Check.{IsOfOnePie}
+use Rattle.std.proofs.Common.{refl, ap, ◌∙◌}
+use Rattle.boot_program.specs.Faults.Records.{fault_cause}
 use Rattle.shared_prover_cli.specs.Answers.Check as check
-use Rattle.shared_prover_cli.specs.Answers.CheckTexts.{accepted_text}
-use Rattle.shared_prover_cli.specs.Working.Replies.{outcome_number}
-use Rattle.shared_prover_cli.specs.Working.RunFaults.{fault_of}
+use Rattle.shared_prover_cli.specs.Answers.CheckTexts.{CheckLine}
+use Rattle.shared_prover_cli.specs.Working.Checking.{AcceptedReply}
+use Rattle.shared_prover_cli.specs.Working.Replies.{outcome_number, reply_view}
+use Rattle.shared_prover_cli.proofs.CheckLemmas.{under_ok}
 use Rattle.shared_prover_cli.specs.declared.reply.Reply.{Reply}
-use Rattle.shared_prover_cli.proofs.CheckLaws.{accepted, has_state, not_accepted}
-use Rattle.shared_prover_cli.proofs.FaultLaws.{first_fault}
 use Rattle.shared_prover_cli.proofs.answers.check.check_answer.Goals as goal
 
 -- the bytes are no certificate's
@@ -21,31 +20,25 @@ returns-in-Err-Refused g c = record {
   has_text = ap (λ (r : Reply). r.text.items) c.refused.ensures ∙ c.in_ok-certificate_line-in-Err-Refused.ensures;
 }
 
--- the machine doesn't accept it
-pub returns-in-Some : goal.returns-in-Some
-returns-in-Some g c =
+-- it is accepted
+pub returns-in-Ok-check_run : goal.returns-in-Ok-check_run
+returns-in-Ok-check_run g c =
     let cert = c.in-Ok.cert in
-    let of_one : IsOfOnePie c.in-Ok.cert = search rules in
-    let fault = c.in-Some.fault in
-    let found : fault_of c.in-Ok.cert ≡ Some c.in-Some.fault = sym c.run_fault.ensures ∙ c.in-Some.is in
-    record {
-      answer = check.faulty fault;
-      is_answer = (cert, (c.in-Ok.ensures.sound, (of_one, (first_fault cert fault found, not_accepted cert fault found))));
-      has_status = ap (λ (r : Reply). outcome_number r.outcome) c.refused-in-Some.ensures;
-      has_text = ap (λ (r : Reply). r.text.items) c.refused-in-Some.ensures ∙ c.in_ok-fault_line.ensures;
-    }
+    under_ok (λ reply. AcceptedReply cert (reply_view reply)) (λ reply. CheckLine c.args.input.now (reply_view reply)) c.accepted.result (λ reply kept. record {
+      answer = check.accepted cert.kind kept.steps kept.outputs;
+      is_answer = (cert, (c.in-Ok.ensures.sound, (refl, (c.in-Ok-check_run.ensures.accepted, (kept.count, kept.holds)))));
+      has_status = kept.has_status;
+      has_text = kept.has_text;
+    }) c.accepted.ensures
 
--- the machine accepts it
-pub returns : goal.returns
-returns g c =
+-- it has a fault
+pub returns-in-Err-Refused-check_run : goal.returns-in-Err-Refused-check_run
+returns-in-Err-Refused-check_run g c =
     let cert = c.in-Ok.cert in
-    let of_one : IsOfOnePie c.in-Ok.cert = search rules in
-    let clean : fault_of c.in-Ok.cert ≡ None = search rules in
-    let accepts = accepted cert clean in
-    let count : length c.in-Ok.cert.states ≡ c.steps_of.result + 1 = omega (arith, has_state cert accepts, c.steps_of.ensures) in
+    let first = c.in-Err-Refused-check_run.ensures.refused c.in-Err-Refused-check_run.fault (cc) in
     record {
-      answer = check.accepted c.steps_of.result (map (λ f. f.number) c.in_ok-outputs.outputs.items);
-      is_answer = (cert, (c.in-Ok.ensures.sound, (of_one, (accepts, (count, c.in_ok-outputs.ensures)))));
-      has_status = refl;
-      has_text = c.in_ok-accepted_line.ensures ∙ ap (λ xs. accepted_text c.steps_of.result (map (λ f. f.number) xs)) c.as_slice.ensures.value;
+      answer = check.faulty (fault_cause c.in-Err-Refused-check_run.fault);
+      is_answer = (cert, (c.in-Ok.ensures.sound, (first, λ accepts. c.accepted_has_no_fault.ensures cert accepts (fault_cause c.in-Err-Refused-check_run.fault) first.applies)));
+      has_status = ap (λ (r : Reply). outcome_number r.outcome) c.refused-in-Err-Refused-check_run.ensures;
+      has_text = ap (λ (r : Reply). r.text.items) c.refused-in-Err-Refused-check_run.ensures ∙ c.in_ok-fault_line-in-Err-Refused-check_run.ensures;
     }
