@@ -1,9 +1,12 @@
 //! The steps and outputs of the batches were told by an independent program. Each certificate is checked row by row.
 
-use crate::vectors::{EMPTY, FIVE, HASH0, RANGE_7, TALL};
+use crate::vectors::{
+    EMPTY, EMPTY_OF_5, EMPTY_OF_6, EMPTY_OF_7, EMPTY_OF_8, FIVE, HASH0, RANGE_7, TALL,
+};
 use batch_runner::{BootMaker, Maker};
 use boot_program::Parcel;
 use cairo_model::{Cert, Checked};
+use desk_core::{Desk, Offer, Reply};
 use goldi_field::Felt;
 use hex::decode;
 use pie_replay::admit;
@@ -115,5 +118,50 @@ fn a_batch_of_two_prints_what_each_shows(rt: HostRuntime) -> Result<(), Fail> {
         expect_batch(&rt, &cert, steps, outputs);
         assert!(rt; certify(&rt, rt.alloc(), cert, parcel, 1).is_ok());
     }
+    Ok(())
+}
+
+// The hash of a program takes its words by groups of four: four numbers and 5 to 8 words leave each remainder.
+#[test]
+fn programs_of_each_length_make_a_batch(rt: HostRuntime) -> Result<(), Fail> {
+    let one_each = parcel_of_three(
+        rt.alloc(),
+        task(rt.alloc(), EMPTY_OF_5)?,
+        task(rt.alloc(), EMPTY_OF_6)?,
+        task(rt.alloc(), EMPTY_OF_7)?,
+    )?;
+    let cert = BootMaker.make(rt.alloc(), &one_each)?;
+    assert!(rt; certify(&rt, rt.alloc(), cert, one_each, 2).is_ok());
+    let whole = parcel_of_two(
+        rt.alloc(),
+        task(rt.alloc(), EMPTY_OF_8)?,
+        task(rt.alloc(), EMPTY_OF_7)?,
+    )?;
+    let cert = BootMaker.make(rt.alloc(), &whole)?;
+    assert!(rt; certify(&rt, rt.alloc(), cert, whole, 1).is_ok());
+    Ok(())
+}
+
+#[test]
+fn the_desk_hands_out_sixteen_tasks_at_most(rt: HostRuntime) -> Result<(), Fail> {
+    let mut desk = Desk::new(rt.alloc(), 1)?;
+    for number in 0..17u32 {
+        assert!(rt; desk.clients() > 0);
+        let offer = Offer::Accepted(task(rt.alloc(), EMPTY)?);
+        assert_eq!(rt;
+            desk.submit(rt.alloc(), 0, 0, offer)?,
+            Reply::Admitted(number)
+        );
+    }
+    assert_eq!(rt; desk.seal(rt.alloc(), 0)?, Reply::SealedBatch(0));
+    let (reply, parcel) = desk.take(rt.alloc(), 1)?;
+    assert_eq!(rt; reply, Reply::TakenBatch(0));
+    let Some(parcel) = parcel else {
+        assert!(rt; false, "no parcel");
+        return Ok(());
+    };
+    assert_eq!(rt; parcel.tasks.len(), 16);
+    let cert = BootMaker.make(rt.alloc(), &parcel)?;
+    assert!(rt; certify(&rt, rt.alloc(), cert, parcel, 8).is_ok());
     Ok(())
 }
