@@ -11,6 +11,9 @@ use rayon::prelude::*;
 use std::alloc::{AllocError, Global};
 use std::thread::Threads;
 
+/// How many rows less than which are not worth a thread of their own.
+const LEAST_ROWS: usize = 1024;
+
 /// The first row that doesn't lead to the next state, found in so many chunks at most. With one chunk it takes no memory.
 pub(crate) fn first_bad(
     rt: &(impl Threads + Sync),
@@ -46,13 +49,13 @@ fn in_chunks(
     Ok(first_answer(answers.as_slice()))
 }
 
-// Rows cut into chunks of one size but the last, `count` at most.
+// Rows cut into chunks of one size but the last, `count` at most, and fewer where there are few rows.
 #[tactic(auto, using(crate::proofs::Cutting::one_further), unfolding(crate::specs::Working::Chunks::AreChunks))]
 fn cut(alloc: Global, rows: usize, count: usize) -> Result<Vec<(usize, usize)>, AllocError>
     requires { 0 < count }
     ensures { IfOk result (λ v. AreChunks 0 v.items rows) }
 {
-    let size = rows / count;
+    let size = (rows / count).max(LEAST_ROWS);
     let mut chunks: Vec<(usize, usize)> = Vec::new(alloc);
     let mut first = 0;
     while first < rows {
@@ -67,7 +70,7 @@ fn cut(alloc: Global, rows: usize, count: usize) -> Result<Vec<(usize, usize)>, 
     Ok(chunks)
 }
 
-// The first bad row of each chunk, in order.
+// The first bad row of each chunk, in order. A chunk is worth a thread, few as they are.
 fn chunk_answers(
     rt: &(impl Threads + Sync),
     alloc: Global,
@@ -79,6 +82,7 @@ fn chunk_answers(
 {
     chunks
         .par_iter()
+        .with_min_len(1)
         .map(
             |chunk: &(usize, usize)| -> Option<usize>
                 ensures { AnswersChunk memory.entry.now states.entry.now chunk.now result }

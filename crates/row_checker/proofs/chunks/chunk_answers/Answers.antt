@@ -9,7 +9,7 @@ use Rattle.row_checker.proofs.chunks.chunk_answers.Goals as goal
 
 pub returns : goal.returns
 returns g c =
-    let slice = ap (λ it. it.slice.now) c.map.ensures.base ∙ c.par_iter.ensures in
+    let slice = ap (λ it. it.base.slice.now) c.map.ensures.base ∙ (ap (λ it. it.slice.now) c.with_min_len.ensures.base ∙ c.par_iter.ensures) in
     let same_states = ap (λ f. f.0.now) c.map.ensures.f in
     let same_cells = ap (λ f. f.1.now) c.map.ensures.f in
     IfOk-then c.collect.result _ _ c.collect.ensures (λ v h.
