@@ -1,10 +1,12 @@
 #!/usr/bin/env python3
 """Writes the PIE files that docs/BENCHMARK.md measures.
 
-Usage: make_pies.py FOLDER    (writes down_248.pie, down_1998.pie, down_16248.pie, hash_heavy.pie and range_heavy.pie there)
+Usage: make_pies.py FOLDER    (writes down_248.pie, down_1998.pie, down_4094.pie, down_16248.pie, hash_heavy.pie, range_heavy.pie
+and words_65528.pie there)
 
 The programs of the heavy files copy their three pointers to the end of their run and add to one of them as many cells as its
-segment has. The others copy a cell and count their rounds down to 0: 8 steps, and 4 more a round.
+segment has. The others copy a cell and count their rounds down to 0: 8 steps, and 4 more a round. The last one has as many words
+as a PIE has room for, all but four of them unreached.
 """
 import hashlib
 import json
@@ -21,7 +23,8 @@ ROUND = [0x48127FFE7FFF8000, 0x48127FFD7FFF8000, 0x482480017FFD8000, PRIME - 1, 
 OUTPUT = 0x400280007FFB7FFD
 INSTANCES = 3276
 RANGE_CELLS = 65500
-ROUNDS = (248, 1998, 16248)
+ROUNDS = (248, 1998, 4094, 16248)
+WORDS = 65528
 
 
 def place(segment, offset):
@@ -71,15 +74,22 @@ def counting_down(rounds):
     return pie(8 + 4 * rounds, {0: numbers(code), 1: stack, 2: numbers([1])})
 
 
+def long_program(words):
+    code = [COPY[2], COPY[3], COPY[4], RETURN] + [SET, 1] * ((words - 4) // 2)
+    return pie(4, {0: numbers(code), 1: frame() + [place(s, 0) for s in (2, 3, 4)]})
+
+
 def main():
     folder = sys.argv[1]
     files = {f"down_{rounds}.pie": counting_down(rounds) for rounds in ROUNDS}
     files["hash_heavy.pie"] = full_of(4, [n for k in range(INSTANCES) for n in instance(k)])
     files["range_heavy.pie"] = full_of(3, [(k * 2654435761) % 2**32 for k in range(RANGE_CELLS)])
+    files["words_65528.pie"] = long_program(WORDS)
     for name, data in files.items():
         with open(os.path.join(folder, name), "wb") as out:
             out.write(data)
         print(name, len(data), "bytes")
 
 
-main()
+if __name__ == "__main__":
+    main()

@@ -1,6 +1,7 @@
 //! What `check` does to a certificate of a PIE alone without hash instances, in plain Rust: what `check` is measured beside.
 //!
-//! rustc --edition 2021 -O -C target-cpu=x86-64-v2 plain_check.rs && ./plain_check < FILE    prints the last line that `check` prints
+//! rustc --edition 2021 -O -C target-cpu=x86-64-v2 plain_check.rs && ./plain_check < FILE    prints the last line that `check` prints;
+//! with any word it reads the certificate and does no more
 
 use std::io::Read;
 
@@ -88,6 +89,9 @@ fn main() {
     let rows = four(at);
     let states: Vec<State> = (0..rows).map(|i| at + 4 + 24 * i).map(|k| (eight(k), eight(k + 8), eight(k + 16))).collect();
     assert!(bytes.len() == at + 4 + 24 * rows);
+    if std::env::args().len() > 1 {
+        return;
+    }
     let (f, last) = (states[0].2, states[rows - 1]);
     assert!(states[0].1 == f);
     for k in 0..3 {

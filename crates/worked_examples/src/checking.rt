@@ -3,9 +3,11 @@
 ghost use Rattle.std.specs.Prelude.{◌≤◌};
 
 use crate::vectors::{EMPTY, EMPTY_BATCH, FIVE, FIVE_CERTIFICATE};
+use batch_runner::{BootMaker, Maker};
 use boot_program::{Parcel, RowCause, RunFault};
 use cairo_model::{Cert, Checked, End, felt_of};
-use cert_format::read_cert;
+use cert_format::{read_cert, write_cert};
+use desk_core::{Desk, Offer};
 use hex::decode;
 use pie_replay::admit;
 use row_checker::{certify, check_run};
@@ -54,6 +56,58 @@ fn the_first_fault_is_the_same_in_any_number_of_chunks(rt: HostRuntime) -> Resul
             assert_eq!(rt;
                 fault_of(&rt, rt.alloc(), &cert, chunks)?,
                 fault,
+                "in {chunks}"
+            );
+        }
+    }
+    Ok(())
+}
+
+// Sixteen tasks, whose run has 2,085 rows, so that it is cut into three chunks.
+fn parcel_of_sixteen(alloc: Global) -> Result<Parcel, Fail> {
+    let mut desk = Desk::new(alloc, 1)?;
+    for _ in 0..16u32 {
+        if desk.clients() > 0 {
+            let task = admit(alloc, decode(alloc, FIVE)?.as_slice())?;
+            desk.submit(alloc, 0, 0, Offer::Accepted(task))?;
+        }
+    }
+    desk.seal(alloc, 0)?;
+    match desk.take(alloc, 0)? {
+        (_, Some(parcel)) => Ok(parcel),
+        (_, None) => Err(AllocError.into()),
+    }
+}
+
+// The certificate of these bytes, with another frame pointer in the state so many before the end.
+fn with_other_state(alloc: Global, bytes: &[u8], from_end: usize) -> Result<Cert, Fail> {
+    let mut bytes = bytes.to_vec(alloc)?;
+    let last_byte = bytes
+        .len()
+        .saturating_sub(STATE_BYTES.saturating_mul(from_end))
+        .saturating_add(STATE_BYTES - 1);
+    if let Some(byte) = bytes.get_mut(last_byte) {
+        *byte ^= 1;
+    }
+    Ok(read_cert(alloc, bytes.as_slice())?)
+}
+
+/// A state is three numbers of eight bytes.
+const STATE_BYTES: usize = 24;
+
+// The chunks end at rows 1,025 and 2,050.
+#[test]
+fn a_row_is_named_whatever_chunk_it_lies_in(rt: HostRuntime) -> Result<(), Fail> {
+    let made = BootMaker.make(rt.alloc(), &parcel_of_sixteen(rt.alloc())?)?;
+    assert_eq!(rt; made.states.len(), 2_086);
+    let bytes = write_cert(rt.alloc(), &made)?;
+    for row in [0u32, 1_023, 1_024, 1_025, 2_049, 2_050, 2_083] {
+        let from_end = 2_085usize.saturating_sub(row as usize);
+        let cert = with_other_state(rt.alloc(), bytes.as_slice(), from_end)?;
+        for chunks in [1, 2, 8] {
+            assert_eq!(rt;
+                fault_of(&rt, rt.alloc(), &cert, chunks)?,
+                Some(RunFault::Row(row, RowCause::Next)),
                 "in {chunks}"
             );
         }
