@@ -37,6 +37,8 @@ mod registry;
 #[cfg(test)]
 mod replays;
 #[cfg(test)]
+mod runs;
+#[cfg(test)]
 mod steps;
 #[cfg(test)]
 mod texts;

@@ -1,0 +1,14 @@
+pub mod Quotients
+pub mod Sound
+pub mod SoundSteps
+pub mod GoodStarts
+pub mod SoundRuns
+pub mod MadePies
+pub mod KeptCells
+pub mod RunAnswers
+pub mod PutCells
+pub mod Turns
+pub mod Rows
+pub mod Parts
+pub mod OneMemory
+pub mod OneAnswer

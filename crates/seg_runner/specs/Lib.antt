@@ -1,0 +1,11 @@
+pub mod Refusals
+pub mod Memories
+pub mod Hashes
+pub mod Deductions
+pub mod Steps
+pub mod Starts
+pub mod Endings
+pub mod Runs
+pub mod Answers
+pub mod Views
+pub mod Working

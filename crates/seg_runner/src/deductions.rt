@@ -1,0 +1,97 @@
+//! The values that the rules give.
+
+ghost use Rattle.std.specs.Prelude.{◌≡◌, Ok, Err, option_map, OnOk};
+ghost use Rattle.cairo_model.specs.Views.Machine.{datum, registers};
+ghost use Rattle.cairo_model.specs.Machine.Steps.{value_arithmetic, after as after_of, result_of};
+ghost use Rattle.cairo_model.specs.Machine.Values.{Difference};
+ghost use Rattle.cairo_word.specs.Instructions.{fields};
+ghost use Rattle.goldi_field.specs.Numbers.{prime};
+ghost use Rattle.seg_runner.specs.Deductions.{Quotient, quotient_of, return_address as return_of, caller_frame as caller_of, deduced_op0 as op0_of, deduced_op1 as op1_of, deduced_dst as dst_of};
+
+use cairo_model::{State, Value, add, mul, size_felt, sub};
+use cairo_word::Instruction;
+use goldi_field::Felt;
+
+/// op0 of a call is the address after it.
+pub(crate) fn return_address(instruction: &Instruction, state: &State) -> Option<Value>
+    ensures { option_map datum result ≡ return_of (fields instruction.now) (registers state.now) }
+{
+    if instruction.opcode == 1 {
+        after(instruction, state)
+    } else {
+        None
+    }
+}
+
+fn after(instruction: &Instruction, state: &State) -> Option<Value>
+    ensures { option_map datum result ≡ after_of value_arithmetic (fields instruction.now) (registers state.now) }
+{
+    add(state.pc, Value::Number(size_felt(instruction)))
+}
+
+/// dst of a call is the present frame pointer.
+pub(crate) fn caller_frame(instruction: &Instruction, state: &State) -> Option<Value>
+    ensures { option_map datum result ≡ caller_of (fields instruction.now) (registers state.now) }
+{
+    if instruction.opcode == 1 {
+        Some(state.fp)
+    } else {
+        None
+    }
+}
+
+/// op0 of an assertion, by dst and op1.
+pub(crate) fn deduced_op0(instruction: &Instruction, dst: Value, op1: Value) -> Option<Value>
+    ensures { option_map datum result ≡ op0_of (fields instruction.now) (datum dst) (datum op1) }
+{
+    match instruction.res_logic {
+        1 => sub(dst, op1),
+        2 => quotient(dst, op1),
+        _ => None,
+    }
+}
+
+/// op1 of an assertion, by dst and op0.
+pub(crate) fn deduced_op1(instruction: &Instruction, dst: Value, op0: Value) -> Option<Value>
+    ensures { option_map datum result ≡ op1_of (fields instruction.now) (datum dst) (datum op0) }
+{
+    match instruction.res_logic {
+        0 => Some(dst),
+        1 => sub(dst, op0),
+        _ => quotient(dst, op0),
+    }
+}
+
+/// The result of an instruction, which is dst of an assertion.
+pub(crate) fn deduced_dst(instruction: &Instruction, op0: Value, op1: Value) -> Option<Value>
+    ensures { option_map datum result ≡ dst_of (fields instruction.now) (datum op0) (datum op1) }
+{
+    if instruction.pc_update == 4 {
+        return Some(op1);
+    }
+    match instruction.res_logic {
+        0 => Some(op1),
+        1 => add(op0, op1),
+        _ => mul(op0, op1),
+    }
+}
+
+// The quotient of two values, which both have to be numbers.
+fn quotient(a: Value, b: Value) -> Option<Value>
+    ensures { option_map datum result ≡ Quotient (datum a) (datum b) }
+{
+    match (a, b) {
+        (Value::Number(a), Value::Number(b)) => Some(Value::Number(divided(a, b)?)),
+        _ => None,
+    }
+}
+
+// The number whose product with b is a, where b isn't 0.
+fn divided(a: Felt, b: Felt) -> Option<Felt>
+    ensures { option_map (λ q. q.number) result ≡ quotient_of a.number b.number }
+{
+    match b.inv() {
+        Some(inverse) => Some(a.mul(inverse)),
+        None => None,
+    }
+}
