@@ -14,10 +14,10 @@ use Rattle.seg_runner.specs.Steps.{with_first_puts, with_last_puts}
 abbrev pub KeepsCells : GrowingMemory → GrowingMemory → Type 0
 KeepsCells old new = (at v : Datum) → old.cells at ≡ Some v → new.cells at ≡ Some v
 
-same_kept : (m after : GrowingMemory) → ◌≡◌ {A = Result GrowingMemory RunCause} (Ok m) (Ok after) → KeepsCells m after
+pub same_kept : (m after : GrowingMemory) → ◌≡◌ {A = Result GrowingMemory RunCause} (Ok m) (Ok after) → KeepsCells m after
 same_kept m after e at v is = subst (λ (x : GrowingMemory). x.cells at ≡ Some v) (ok_is m after e) is
 
-then_kept : (a b c : GrowingMemory) → KeepsCells a b → KeepsCells b c → KeepsCells a c
+pub then_kept : (a b c : GrowingMemory) → KeepsCells a b → KeepsCells b c → KeepsCells a c
 then_kept a b c first second at v is = second at v (first at v is)
 
 stands_not : (o : Option Datum) (v : Datum) → o ≡ Some v → is_some o ≡ false → ⊥

@@ -12,3 +12,6 @@ pub mod Rows
 pub mod Parts
 pub mod OneMemory
 pub mod OneAnswer
+pub mod Transitions
+pub mod StepParts
+pub mod IsolatedStates

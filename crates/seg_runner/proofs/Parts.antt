@@ -10,7 +10,7 @@ use Rattle.seg_runner.specs.Endings.{completed}
 use Rattle.seg_runner.specs.Memories.{GrowingMemory, put_where_absent}
 use Rattle.seg_runner.specs.Refusals.{RunCause, faulty}
 use Rattle.seg_runner.specs.Starts.{started}
-use Rattle.seg_runner.specs.Steps.{Configuration, concluded, instruction_at, op1_at, operand_at, run_step, with_first_puts, with_last_puts}
+use Rattle.seg_runner.specs.Steps.{Configuration, concluded, fetched_fields, op1_at, operand_at, run_step, with_first_puts, with_last_puts}
 use Rattle.seg_runner.specs.Working.Running.{RunEnd, ended, run_of, runs_on}
 
 pub required_on : {A B E : Type 0} (e : E) (o : Option A) (f : A → Result B E) (x : A) → o ≡ Some x → required e o >>= f ≡ f x
@@ -42,12 +42,12 @@ first_puts n m a b c f s x y back frame is_back is_frame at_x at_y with_back = s
     ∙ ap (put_where_absent n c x) (sym is_frame))
 
 module _ (n : ℕ) (now : Configuration) (f : Fields) (x y z : Datum) (first last : GrowingMemory)
-    (fetched : instruction_at n now ≡ Ok f) (dst_at : operand_at (register_in now.registers f.dst_reg) f.off_dst ≡ Some x) (op0_at : operand_at (register_in now.registers f.op0_reg) f.off_op0 ≡ Some y)
+    (fetched : fetched_fields n now ≡ Ok f) (dst_at : operand_at (register_in now.registers f.dst_reg) f.off_dst ≡ Some x) (op0_at : operand_at (register_in now.registers f.op0_reg) f.off_op0 ≡ Some y)
     (begun : with_first_puts n now.memory f now.registers x y ≡ Ok first) (op1_is : op1_at n first f now.registers y ≡ Ok z) (put : with_last_puts n first f x y z ≡ Ok last) where
   pub step_is : run_step n now ≡ (concluded n last f now.registers x y z >>= λ registers. Ok (record { memory = last; registers = registers }))
   unfolding run_step
   step_is =
-      bound_on (instruction_at n now) _ f fetched
+      bound_on (fetched_fields n now) _ f fetched
       ∙ required_on (faulty n Dst) (operand_at (register_in now.registers f.dst_reg) f.off_dst) _ x dst_at
       ∙ required_on (faulty n Op0) (operand_at (register_in now.registers f.op0_reg) f.off_op0) _ y op0_at
       ∙ bound_on (with_first_puts n now.memory f now.registers x y) _ first begun

@@ -8,7 +8,7 @@ use Rattle.cairo_model.proofs.Inversion.{value_exact}
 use Rattle.cairo_model.specs.Machine.Values.{Datum, number, place, same_datum}
 use Rattle.seg_memory.specs.Memory.{MemoryRecord, cell_of, memory_in, IsPut, HoldsSame}
 use Rattle.seg_runner.specs.Memories.{sizes_with, with_cell}
-use Rattle.seg_runner.specs.Views.{growing}
+use Rattle.seg_runner.specs.Working.Seen.{growing}
 
 -- ---- sizes
 

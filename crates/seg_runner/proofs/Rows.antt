@@ -9,7 +9,7 @@ use Rattle.cairo_model.specs.Machine.Values.{Datum, number, place}
 use Rattle.cairo_model.specs.Segments.{builtin_mask, frame_segments}
 use Rattle.seg_memory.specs.Memory.{MemoryRecord, cell_of, memory_in, IsPut, IsEmpty}
 use Rattle.seg_runner.specs.Starts.{frame_length, start_cells, start_memory}
-use Rattle.seg_runner.specs.Views.{growing}
+use Rattle.seg_runner.specs.Working.Seen.{growing}
 use Rattle.seg_runner.specs.Working.Running.{with_row, frame_values}
 
 get_next : (xs : List Datum) (k q : ℕ) (v : Datum) → slice_get xs k ≡ Some v → slice_get (take (suc k) xs) q ≡ (if q == k then Some v else slice_get (take k xs) q)

@@ -22,7 +22,7 @@ use Rattle.seg_runner.specs.Deductions.{Quotient, quotient_of, by_hash, by_asser
 use Rattle.seg_runner.specs.Hashes.{digest_of, hash_output, inputs_of, inputs_per_instance, output_word, outputs_of}
 use Rattle.seg_runner.specs.Memories.{GrowingMemory, put_where_absent}
 use Rattle.seg_runner.specs.Refusals.{RunCause, unknown_cell, faulty}
-use Rattle.seg_runner.specs.Steps.{Configuration, concluded, consistent, instruction_at, op1_at, operand_at, refused_at, run_step, with_first_puts, with_last_puts}
+use Rattle.seg_runner.specs.Steps.{Configuration, concluded, consistent, fetched_fields, op1_at, operand_at, refused_at, run_step, with_first_puts, with_last_puts}
 
 -- ---- what the rules give lies in the segments
 
@@ -155,28 +155,28 @@ pub record IsGood (words : List ℕ) (now : Configuration) : Type 0 where
 
 -- the rest of a step, from one of its parts on
 module _ (n : ℕ) (now : Configuration) (f : Fields) where
-  abbrev from_op1 : Datum → Datum → GrowingMemory → Datum → Result Configuration RunCause
+  abbrev pub from_op1 : Datum → Datum → GrowingMemory → Datum → Result Configuration RunCause
   from_op1 dst op0 first op1 =
       with_last_puts n first f dst op0 op1 >>= λ last.
       concluded n last f now.registers dst op0 op1 >>= λ registers.
       Ok (record { memory = last; registers = registers })
 
-  abbrev from_puts : Datum → Datum → GrowingMemory → Result Configuration RunCause
+  abbrev pub from_puts : Datum → Datum → GrowingMemory → Result Configuration RunCause
   from_puts dst op0 first = op1_at n first f now.registers op0 >>= from_op1 dst op0 first
 
-  abbrev from_op0 : Datum → Datum → Result Configuration RunCause
+  abbrev pub from_op0 : Datum → Datum → Result Configuration RunCause
   from_op0 dst op0 = with_first_puts n now.memory f now.registers dst op0 >>= from_puts dst op0
 
-  abbrev from_dst : Datum → Result Configuration RunCause
+  abbrev pub from_dst : Datum → Result Configuration RunCause
   from_dst dst = required (faulty n Op0) (operand_at (register_in now.registers f.op0_reg) f.off_op0) >>= from_op0 dst
 
-  abbrev from_fields : Result Configuration RunCause
+  abbrev pub from_fields : Result Configuration RunCause
   from_fields = required (faulty n Dst) (operand_at (register_in now.registers f.dst_reg) f.off_dst) >>= from_dst
 
 pub step_keeps : (words : List ℕ) (n : ℕ) (now after : Configuration) → IsGood words now → run_step n now ≡ Ok after → IsGood words after
 unfolding run_step
 step_keeps words n now after good e =
-    bind_gives (instruction_at n now) (λ f. from_fields n now f) after e (λ f is_f e.
+    bind_gives (fetched_fields n now) (λ f. from_fields n now f) after e (λ f is_f e.
     required_gives (faulty n Dst) (operand_at (register_in now.registers f.dst_reg) f.off_dst) (from_dst n now f) after e (λ dst is_dst e.
     required_gives (faulty n Op0) (operand_at (register_in now.registers f.op0_reg) f.off_op0) (from_op0 n now f dst) after e (λ op0 is_op0 e.
     bind_gives (with_first_puts n now.memory f now.registers dst op0) (from_puts n now f dst op0) after e (λ first is_first e.

@@ -1,5 +1,7 @@
 -- A run as a list of steps from the start (docs/RUNNER.md).
-use Rattle.std.specs.Prelude.{ℕ, ◌≡◌, ◌+◌, false, List, [], ◌∷◌, length, Ok}
+use Rattle.std.specs.Prelude.{ℕ, ◌≡◌, ◌+◌, false, List, [], ◌∷◌, length, map, Ok}
+use Rattle.cairo_model.specs.Machine.Steps.{Registers}
+use Rattle.cairo_model.specs.Machine.Values.{Datum}
 use Rattle.seg_runner.specs.Endings.{is_returned}
 use Rattle.seg_runner.specs.Starts.{started}
 use Rattle.seg_runner.specs.Steps.{Configuration, run_step}
@@ -22,3 +24,7 @@ pub record HasRun (words : List ℕ) (main steps : ℕ) (last : Configuration) :
   pub advances : Advances 0 start rest
   pub count : length rest ≡ steps
   pub ends : last_configuration start rest ≡ last
+
+-- the registers of each configuration of a run, from the start on
+abbrev pub states_of : {words : List ℕ} {main steps : ℕ} {last : Configuration} → HasRun words main steps last → List (Registers Datum)
+states_of run = map (λ c. c.registers) (run.start ∷ run.rest)

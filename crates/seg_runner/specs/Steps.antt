@@ -18,13 +18,13 @@ pub record Configuration : Type 0 where
 -- ---- addresses
 
 -- a value that is a place
-abbrev pub place_in : Datum → Option Datum
-place_in (number a) = None
-place_in (place segment offset) = Some (place segment offset)
+abbrev pub as_place : Datum → Option Datum
+as_place (number a) = None
+as_place (place segment offset) = Some (place segment offset)
 
 -- the address of an operand, where it is defined and a place
 abbrev pub operand_at : Datum → ℤ → Option Datum
-operand_at from offset = option_and_then place_in (moved value_arithmetic from (offset_number offset))
+operand_at from offset = option_and_then as_place (moved value_arithmetic from (offset_number offset))
 
 -- what the address of op1 counts from: the value of op0, if that is there, or a register
 abbrev pub op1_base : Fields → Registers Datum → Option Datum → Option Datum
@@ -33,8 +33,8 @@ op1_base f s op0 = if f.op1_src == 0 then op0 else Some (if f.op1_src == 1 then 
 -- ---- the parts of a step, in their order
 
 -- the instruction at pc
-abbrev pub instruction_at : ℕ → Configuration → Result Fields RunCause
-instruction_at n now = do
+abbrev pub fetched_fields : ℕ → Configuration → Result Fields RunCause
+fetched_fields n now = do
   cell ← required (faulty n Fetch) (now.memory.cells now.registers.pc)
   required (faulty n Word) (spelled value_arithmetic cell)
 
@@ -85,7 +85,7 @@ concluded n m f s at_dst at_op0 at_op1 = do
 -- the step of this number
 unfoldable pub run_step : ℕ → Configuration → Result Configuration RunCause
 run_step n now = do
-  f ← instruction_at n now
+  f ← fetched_fields n now
   dst ← required (faulty n Dst) (operand_at (register_in now.registers f.dst_reg) f.off_dst)
   op0 ← required (faulty n Op0) (operand_at (register_in now.registers f.op0_reg) f.off_op0)
   first ← with_first_puts n now.memory f now.registers dst op0

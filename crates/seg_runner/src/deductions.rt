@@ -23,7 +23,8 @@ pub(crate) fn return_address(instruction: &Instruction, state: &State) -> Option
     }
 }
 
-fn after(instruction: &Instruction, state: &State) -> Option<Value>
+/// The address after the instruction.
+pub(crate) fn after(instruction: &Instruction, state: &State) -> Option<Value>
     ensures { option_map datum result ≡ after_of value_arithmetic (fields instruction.now) (registers state.now) }
 {
     add(state.pc, Value::Number(size_felt(instruction)))

@@ -1,7 +1,11 @@
 ghost use Rattle.std.specs.Prelude.{◌≡◌, ℕ, List, Result};
+ghost use Rattle.cairo_model.specs.Machine.Steps.{Registers};
+ghost use Rattle.cairo_model.specs.Machine.Values.{Datum};
+ghost use Rattle.cairo_model.specs.Pie.Acceptance.{AcceptedWith, FactRecord};
 ghost use Rattle.cairo_model.specs.Pie.Records.{PieRecord};
-ghost use Rattle.seg_runner.specs.Answers.{IsRunAnswer};
+ghost use Rattle.seg_runner.specs.Answers.{IsRunAnswer, RunsToPie};
 ghost use Rattle.seg_runner.specs.Refusals.{RunCause};
+ghost use Rattle.seg_runner.specs.Runs.{states_of};
 
 use pie_replay::{accepted_has_no_cause, one_first_replay_cause};
 
@@ -12,3 +16,8 @@ pub fn one_run_answer()
     accepted_has_no_cause();
     one_first_replay_cause();
 }
+
+/// The states that a run goes through while code, frame and rules put its cells are those of the isolated run of its PIE.
+pub fn states_are_isolated()
+    ensures { (words : List ℕ) (main limit : ℕ) (pie : PieRecord) (fact : FactRecord) (states : List (Registers Datum)) (r : RunsToPie words main limit pie) → AcceptedWith pie fact states → states ≡ states_of r.runs }
+{}

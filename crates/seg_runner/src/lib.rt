@@ -5,6 +5,7 @@ mod completion;
 mod deductions;
 mod hashes;
 mod laws;
+mod moving;
 mod operands;
 mod puts;
 mod refusal;
@@ -13,6 +14,6 @@ mod running;
 mod starting;
 mod stepping;
 
-pub use laws::one_run_answer;
+pub use laws::{one_run_answer, states_are_isolated};
 pub use refusal::RunRefusal;
 pub use runner::run;

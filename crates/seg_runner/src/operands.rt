@@ -5,7 +5,7 @@ ghost use Rattle.cairo_model.specs.Machine.Steps.{value_arithmetic, register_in,
 ghost use Rattle.cairo_model.specs.Views.Machine.{datum, registers};
 ghost use Rattle.cairo_word.specs.Instructions.{fields};
 ghost use Rattle.seg_runner.specs.Steps.{operand_at as operand_of, op1_base as base_of};
-ghost use Rattle.seg_runner.specs.Views.{place_datum};
+ghost use Rattle.seg_runner.specs.Working.Seen.{place_datum};
 
 use cairo_model::{Place, State, Value, add, offset_felt};
 use cairo_word::{Instruction, Reg, decode};

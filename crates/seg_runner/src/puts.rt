@@ -6,7 +6,8 @@ ghost use Rattle.cairo_model.specs.Views.Machine.{datum};
 ghost use Rattle.seg_memory.specs.Memory.{HoldsSame, cell_of, memory_in};
 ghost use Rattle.seg_runner.specs.Memories.{may_grow as growth_test, put_at as put_of, put_where_absent as put_absent_of, sizes_with};
 ghost use Rattle.seg_runner.specs.Refusals.{over_size};
-ghost use Rattle.seg_runner.specs.Views.{growing, place_datum, run_cause};
+ghost use Rattle.seg_runner.specs.Views.{run_cause};
+ghost use Rattle.seg_runner.specs.Working.Seen.{growing, place_datum};
 ghost use Rattle.seg_runner.specs.Working.Running.{HasSevenSizes};
 
 use crate::refusal::RunRefusal;

@@ -6,7 +6,8 @@ ghost use Rattle.cairo_model.specs.Pie.Acceptance.{AcceptedWith, HoldsNumbers};
 ghost use Rattle.cairo_model.specs.Pie.Records.{KeepsRules, segment_size};
 ghost use Rattle.cairo_model.specs.Segments.{program_segment};
 ghost use Rattle.seg_runner.specs.Answers.{IsRunAnswer, IsRunRefusal, RunsToPie};
-ghost use Rattle.seg_runner.specs.Views.{growing, run_cause};
+ghost use Rattle.seg_runner.specs.Views.{run_cause};
+ghost use Rattle.seg_runner.specs.Working.Seen.{growing};
 ghost use Rattle.seg_runner.specs.Working.Running.{HasSevenSizes, ended, run_of};
 
 use crate::completion::complete;

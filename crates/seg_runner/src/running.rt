@@ -3,7 +3,8 @@
 ghost use Rattle.std.specs.Prelude.{◌≡◌, ◌≤◌, Ok, Err, IfOk, OnOk};
 ghost use Rattle.cairo_model.specs.Views.Machine.{registers};
 ghost use Rattle.seg_runner.specs.Endings.{is_returned as return_test};
-ghost use Rattle.seg_runner.specs.Views.{configuration, growing, run_cause};
+ghost use Rattle.seg_runner.specs.Views.{run_cause};
+ghost use Rattle.seg_runner.specs.Working.Seen.{configuration, growing};
 ghost use Rattle.seg_runner.specs.Working.Running.{HasSevenSizes, ended, runs_on};
 
 use crate::refusal::RunRefusal;

@@ -7,7 +7,8 @@ ghost use Rattle.cairo_model.specs.Segments.{builtin_mask, frame_segments, progr
 ghost use Rattle.cairo_model.specs.Views.Machine.{datum, registers};
 ghost use Rattle.seg_memory.specs.Memory.{IsPut, cell_of, size_of, memory_in, IsEmpty};
 ghost use Rattle.seg_runner.specs.Starts.{frame_length, start_memory as memory_begun, start_registers, started};
-ghost use Rattle.seg_runner.specs.Views.{growing, run_cause, configuration};
+ghost use Rattle.seg_runner.specs.Views.{run_cause};
+ghost use Rattle.seg_runner.specs.Working.Seen.{growing, configuration};
 ghost use Rattle.seg_runner.specs.Working.Running.{HasSevenSizes, with_row, frame_values};
 
 use crate::refusal::RunRefusal;

@@ -1,23 +1,26 @@
 //! One step: the puts of the rules in their order, and then the machine's transition.
 
 ghost use Rattle.std.specs.Prelude.{◌≡◌, Ok, Err, IfOk, OnOk, option_map, true};
-ghost use Rattle.cairo_model.specs.Machine.Steps.{value_arithmetic, next};
+ghost use Rattle.cairo_model.specs.Machine.Steps.{value_arithmetic};
 ghost use Rattle.cairo_model.specs.Views.Machine.{datum, registers};
+ghost use Rattle.seg_memory.specs.Memory.{memory_in};
 ghost use Rattle.cairo_word.specs.Instructions.{fields};
 ghost use Rattle.seg_runner.specs.Deductions.{by_assertion as by_assertion_of, by_hash, put_asserted as asserted_of};
 ghost use Rattle.seg_runner.specs.Memories.{put_where_absent as put_absent_of};
-ghost use Rattle.seg_runner.specs.Steps.{concluded as conclusion, consistent as consistent_of, instruction_at as fetched_by, op1_at as op1_by, run_step, with_first_puts, with_last_puts};
-ghost use Rattle.seg_runner.specs.Views.{configuration, growing, place_datum, run_cause};
-ghost use Rattle.seg_runner.specs.Working.Running.{HasSevenSizes};
+ghost use Rattle.seg_runner.specs.Steps.{concluded as conclusion, consistent as consistent_of, fetched_fields as fetched_by, op1_at as op1_by, refused_at, run_step, with_first_puts, with_last_puts};
+ghost use Rattle.seg_runner.specs.Views.{run_cause};
+ghost use Rattle.seg_runner.specs.Working.Seen.{configuration, growing, place_datum};
+ghost use Rattle.seg_runner.specs.Working.Moving.{moved_on};
+ghost use Rattle.seg_runner.specs.Working.Running.{HasSevenSizes, IsInstruction};
 
 use crate::deductions::{caller_frame, deduced_dst, deduced_op0, deduced_op1, return_address};
 use crate::hashes::hash_output;
+use crate::moving::moved;
 use crate::operands::{in_register, op1_base, operand_at, spelled_by};
 use crate::puts::{put_at, put_where_absent};
 use crate::refusal::RunRefusal;
 use cairo_model::{End, Place, State, StepFault, Value};
 use cairo_word::Instruction;
-use pie_replay::step_value;
 use seg_memory::SegMemory;
 use std::alloc::Global;
 
@@ -212,16 +215,25 @@ fn put_asserted(
 
 // The three cells stand, an assertion holds, and the machine makes its transition.
 #[tactic(auto, unfolding(crate::specs::Steps::concluded))]
-fn concluded(memory: &SegMemory, of: &Operation, op1: Place) -> Result<State, End<RunRefusal>>
-    ensures ok { IfOk result (λ after. conclusion of.now.number (growing memory.now) (fields of.now.instruction) (registers of.now.state) (place_datum of.now.dst) (place_datum of.now.op0) (place_datum op1) ≡ Ok (registers after)) }
-    ensures refused { (e : RunRefusal) → result ≡ Err (End.Refused e) → conclusion of.now.number (growing memory.now) (fields of.now.instruction) (registers of.now.state) (place_datum of.now.dst) (place_datum of.now.op0) (place_datum op1) ≡ Err (run_cause e) }
+fn concluded(memory: &SegMemory, of: &Operation, op1_at: Place) -> Result<State, End<RunRefusal>>
+    requires { IsInstruction (memory_in memory.now) (fields of.now.instruction) (registers of.now.state) (place_datum of.now.dst) (place_datum of.now.op0) (place_datum op1_at) }
+    ensures ok { IfOk result (λ after. conclusion of.now.number (growing memory.now) (fields of.now.instruction) (registers of.now.state) (place_datum of.now.dst) (place_datum of.now.op0) (place_datum op1_at) ≡ Ok (registers after)) }
+    ensures refused { (e : RunRefusal) → result ≡ Err (End.Refused e) → conclusion of.now.number (growing memory.now) (fields of.now.instruction) (registers of.now.state) (place_datum of.now.dst) (place_datum of.now.op0) (place_datum op1_at) ≡ Err (run_cause e) }
 {
     let unknown = End::Refused(RunRefusal::Unknown(of.number));
     let dst = memory.get(of.dst).ok_or(unknown)?;
     let op0 = memory.get(of.op0).ok_or(unknown)?;
-    let op1 = memory.get(op1).ok_or(unknown)?;
+    let op1 = memory.get(op1_at).ok_or(unknown)?;
     consistent(of, dst, op0, op1)?;
-    match step_value(memory, of.state) {
+    transition(of, dst, op0, op1)
+}
+
+// The machine's transition from these values, or its fault.
+fn transition(of: &Operation, dst: Value, op0: Value, op1: Value) -> Result<State, End<RunRefusal>>
+    ensures ok { IfOk result (λ after. refused_at of.now.number (moved_on (fields of.now.instruction) (registers of.now.state) (datum dst) (datum op0) (datum op1)) ≡ Ok (registers after)) }
+    ensures refused { (e : RunRefusal) → result ≡ Err (End.Refused e) → refused_at of.now.number (moved_on (fields of.now.instruction) (registers of.now.state) (datum dst) (datum op0) (datum op1)) ≡ Err (run_cause e) }
+{
+    match moved(&of.instruction, &of.state, dst, op0, op1) {
         Ok(after) => Ok(after),
         Err(fault) => Err(End::Refused(RunRefusal::Fault(of.number, fault))),
     }

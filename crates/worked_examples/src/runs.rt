@@ -1,7 +1,10 @@
 //! Programs and what they run to. The files, and most refusals, are by a program that shares nothing with ours; the rest
 //! follows from the rules of docs/RUNNER.md.
 
-use cairo_model::limits::MOST_STEPS;
+ghost use Rattle.std.specs.Prelude.{◌≤◌};
+ghost use Rattle.cairo_model.specs.Limits.{most_cells};
+
+use cairo_model::limits::{MOST_CELLS, MOST_STEPS, OFFSET_LIMIT};
 use cairo_model::{End, Place, ReplayRefusal, StepFault, Value, felt_of};
 use casm_text::{Code, assemble};
 use hex::decode;
@@ -42,7 +45,7 @@ fn code_of(alloc: Global, text: &str) -> Option<Code> {
 // What a text runs to, as the bytes of a PIE; none where memory fails.
 fn outcome(alloc: Global, text: &str) -> Option<Result<Vec<u8>, RunRefusal>> {
     let code = code_of(alloc, text)?;
-    if code.words.len() > 1 << 16 || code.main >= 1 << 31 {
+    if code.words.len() > MOST_CELLS as usize || code.main >= u64::from(OFFSET_LIMIT) {
         return None;
     }
     match run(alloc, &code, MOST_STEPS) {
@@ -141,6 +144,8 @@ fn texts_and_their_refusals(rt: HostRuntime) -> Result<(), Fail> {
     Ok(())
 }
 
-fn at(segment: u16, offset: u32) -> Value {
+fn at(segment: u16, offset: u32) -> Value
+    requires { offset ≤ most_cells }
+{
     Value::At(Place { segment, offset })
 }

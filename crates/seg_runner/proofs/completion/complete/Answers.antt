@@ -1,6 +1,7 @@
 use Rattle.std.proofs.Common.{◌≡◌, suc, ◌+◌, ◌-◌, sym, ap, ◌∙◌, arith, rules}
 use Rattle.seg_runner.specs.Endings.{with_instances}
-use Rattle.seg_runner.specs.Views.{growing, run_cause}
+use Rattle.seg_runner.specs.Views.{run_cause}
+use Rattle.seg_runner.specs.Working.Seen.{growing}
 use Rattle.seg_runner.proofs.Turns.{instances_done, instances_on, instances_refused}
 use Rattle.seg_runner.proofs.completion.complete.Goals as goal
 

@@ -2,7 +2,8 @@ use Rattle.std.proofs.Common.{◌≡◌, suc, ◌+◌, ◌-◌, Some, Err, sym, 
 use Rattle.cairo_model.specs.Machine.Values.{Datum, place}
 use Rattle.seg_runner.specs.Hashes.{output_word}
 use Rattle.seg_runner.specs.Memories.{put_where_absent}
-use Rattle.seg_runner.specs.Views.{growing, run_cause}
+use Rattle.seg_runner.specs.Views.{run_cause}
+use Rattle.seg_runner.specs.Working.Seen.{growing}
 use Rattle.seg_runner.proofs.Turns.{words_done, words_on, words_refused}
 use Rattle.seg_runner.proofs.completion.put_words.Goals as goal
 

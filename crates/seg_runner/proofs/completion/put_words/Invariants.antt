@@ -1,6 +1,6 @@
 use Rattle.std.proofs.Common.{◌≡◌, ◌-◌}
 use Rattle.seg_runner.specs.Endings.{with_words}
-use Rattle.seg_runner.specs.Views.{growing}
+use Rattle.seg_runner.specs.Working.Seen.{growing}
 use Rattle.seg_runner.specs.Working.Running.{HasSevenSizes}
 use Rattle.seg_runner.proofs.completion.put_words.Given as goal
 

@@ -1,7 +1,8 @@
 use Rattle.std.proofs.Common.{rules}
 use Rattle.seg_runner.proofs.GoodStarts.{starts_as}
 use Rattle.seg_runner.proofs.Parts.{no_start, run_ends, run_fails, run_stops}
-use Rattle.seg_runner.specs.Views.{configuration, growing, run_cause}
+use Rattle.seg_runner.specs.Views.{run_cause}
+use Rattle.seg_runner.specs.Working.Seen.{configuration, growing}
 use Rattle.seg_runner.specs.Working.Running.{ended}
 use Rattle.seg_runner.proofs.runner.brought_home.Goals as goal
 

@@ -2,7 +2,8 @@ use Rattle.std.proofs.Common.{◌≤◌, map, refl, arith, rules}
 use Rattle.cairo_model.specs.Limits.{most_steps}
 use Rattle.cairo_model.specs.Pie.Records.{PieRecord}
 use Rattle.cairo_model.specs.Views.Pie.{memory_cell}
-use Rattle.seg_runner.specs.Views.{growing, run_cause}
+use Rattle.seg_runner.specs.Views.{run_cause}
+use Rattle.seg_runner.specs.Working.Seen.{growing}
 use Rattle.seg_runner.specs.Working.Running.{ended}
 use Rattle.seg_runner.proofs.MadePies.{memory_is, pie_code, pie_rules}
 use Rattle.seg_runner.proofs.RunAnswers.{run_refused, runs_to, steps_in}

@@ -2,7 +2,8 @@ use Rattle.std.proofs.Common.{◌≡◌, ℕ, suc, ◌+◌, ◌-◌, true, false
 use Rattle.seg_runner.proofs.Turns.{runs_home, runs_more, runs_over, runs_refused}
 use Rattle.seg_runner.specs.Endings.{is_returned}
 use Rattle.seg_runner.specs.Refusals.{over_limit}
-use Rattle.seg_runner.specs.Views.{configuration, growing, run_cause}
+use Rattle.seg_runner.specs.Views.{run_cause}
+use Rattle.seg_runner.specs.Working.Seen.{configuration, growing}
 use Rattle.seg_runner.specs.Working.Running.{ended}
 use Rattle.seg_runner.specs.declared.refusal.RunRefusal.{RunRefusal}
 use Rattle.seg_runner.specs.declared.refusal.RunRefusal.TheVariants.{StepLimit}

@@ -1,5 +1,5 @@
 use Rattle.std.proofs.Common.{◌≡◌, ◌-◌}
-use Rattle.seg_runner.specs.Views.{configuration}
+use Rattle.seg_runner.specs.Working.Seen.{configuration}
 use Rattle.seg_runner.specs.Working.Running.{HasSevenSizes, runs_on}
 use Rattle.seg_runner.proofs.running.run_home.Given as goal
 

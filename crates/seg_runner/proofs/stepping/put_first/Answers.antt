@@ -4,7 +4,7 @@ use Rattle.cairo_word.specs.Instructions.{fields}
 use Rattle.seg_runner.proofs.Parts.{first_puts}
 use Rattle.seg_runner.specs.Memories.{GrowingMemory}
 use Rattle.seg_runner.specs.Refusals.{RunCause}
-use Rattle.seg_runner.specs.Views.{growing, place_datum}
+use Rattle.seg_runner.specs.Working.Seen.{growing, place_datum}
 use Rattle.seg_runner.proofs.stepping.put_first.Goals as goal
 
 pub returns-clause-ok : goal.returns-clause-ok

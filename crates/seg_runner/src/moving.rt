@@ -1,0 +1,125 @@
+//! The machine's transition from the values of an instruction's cells on.
+
+ghost use Rattle.std.specs.Prelude.{◌≡◌, Ok, Err, MatchResult, option_map};
+ghost use Rattle.cairo_model.specs.Machine.Steps.{value_arithmetic, next_pc as next_pc_of, next_ap as next_ap_of, next_fp as next_fp_of, keeps_call as call_test, keeps_assert as assert_test, moved as moved_by};
+ghost use Rattle.cairo_model.specs.Views.Machine.{datum, registers};
+ghost use Rattle.cairo_word.specs.Instructions.{fields};
+ghost use Rattle.seg_runner.specs.Working.Moving.{moved_on};
+
+use crate::deductions::{after, deduced_dst};
+use cairo_model::{State, StepFault, Value, add, felt_of, is_zero};
+use cairo_word::Instruction;
+use goldi_field::Felt;
+
+/// The state after an instruction whose cells hold these values, or the first fault.
+#[tactic(auto, unfolding(crate::specs::Working::Moving::moved_on))]
+pub(crate) fn moved(
+    instruction: &Instruction,
+    state: &State,
+    dst: Value,
+    op0: Value,
+    op1: Value,
+) -> Result<State, StepFault>
+    ensures { MatchResult result
+        (λ after. moved_on (fields instruction.now) (registers state.now) (datum dst) (datum op0) (datum op1) ≡ Ok (registers after))
+        (λ fault. moved_on (fields instruction.now) (registers state.now) (datum dst) (datum op0) (datum op1) ≡ Err fault) }
+{
+    let res = deduced_dst(instruction, op0, op1).ok_or(StepFault::Res)?;
+    let pc = next_pc(instruction, state, dst, op1, res).ok_or(StepFault::Jump)?;
+    if !keeps_call(instruction, state, dst, op0) {
+        return Err(StepFault::Call);
+    }
+    if !keeps_assert(instruction, dst, res) {
+        return Err(StepFault::Assert);
+    }
+    let Some(ap) = next_ap(instruction, state, res) else {
+        return Err(StepFault::Frame);
+    };
+    let Some(fp) = next_fp(instruction, state, dst) else {
+        return Err(StepFault::Frame);
+    };
+    Ok(State { pc, ap, fp })
+}
+
+fn next_pc(
+    instruction: &Instruction,
+    state: &State,
+    dst: Value,
+    op1: Value,
+    res: Value,
+) -> Option<Value>
+    ensures { option_map datum result ≡ next_pc_of value_arithmetic (fields instruction.now) (registers state.now) (datum dst) (datum op1) (datum res) }
+{
+    match instruction.pc_update {
+        0 => after(instruction, state),
+        1 => Some(res),
+        2 => add(state.pc, res),
+        _ => {
+            if is_zero(dst) {
+                after(instruction, state)
+            } else {
+                add(state.pc, op1)
+            }
+        }
+    }
+}
+
+fn keeps_call(instruction: &Instruction, state: &State, dst: Value, op0: Value) -> bool
+    ensures { result ≡ call_test value_arithmetic (fields instruction.now) (registers state.now) (datum dst) (datum op0) }
+{
+    if instruction.opcode != 1 {
+        return true;
+    }
+    match after(instruction, state) {
+        None => false,
+        Some(back) => same(back, op0) && same(dst, state.fp),
+    }
+}
+
+fn same(a: Value, b: Value) -> bool
+    ensures { result ≡ value_arithmetic.same (datum a) (datum b) }
+{
+    a == b
+}
+
+fn keeps_assert(instruction: &Instruction, dst: Value, res: Value) -> bool
+    ensures { result ≡ assert_test value_arithmetic (fields instruction.now) (datum dst) (datum res) }
+{
+    instruction.opcode != 4 || same(res, dst)
+}
+
+fn next_ap(instruction: &Instruction, state: &State, res: Value) -> Option<Value>
+    ensures { option_map datum result ≡ next_ap_of value_arithmetic (fields instruction.now) (registers state.now) (datum res) }
+{
+    if instruction.opcode == 1 {
+        return above_call(state);
+    }
+    match instruction.ap_update {
+        0 => Some(state.ap),
+        1 => add(state.ap, res),
+        _ => add(state.ap, number(Felt::ONE)),
+    }
+}
+
+fn next_fp(instruction: &Instruction, state: &State, dst: Value) -> Option<Value>
+    ensures { option_map datum result ≡ next_fp_of value_arithmetic (fields instruction.now) (registers state.now) (datum dst) }
+{
+    match instruction.opcode {
+        1 => above_call(state),
+        2 => Some(dst),
+        _ => Some(state.fp),
+    }
+}
+
+// The address above the two cells of a call.
+fn above_call(state: &State) -> Option<Value>
+    ensures { option_map datum result ≡ moved_by value_arithmetic (registers state.now).ap 2 }
+{
+    add(state.ap, number(felt_of(2)))
+}
+
+fn number(n: Felt) -> Value
+    ensures { datum result ≡ value_arithmetic.numeral n.number }
+{
+    Value::Number(n)
+}
