@@ -18,3 +18,4 @@ pub mod NextSealed
 pub mod SealTurn
 pub mod TakeTurn
 pub mod Isolated
+pub mod PlainTurns

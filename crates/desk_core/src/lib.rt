@@ -1,7 +1,9 @@
 //! The desk on one thread: who submitted what, which batches were made, which facts stand, and the journal of all that happened.
 #![tactic(auto)]
 
+mod ask;
 mod batch;
+mod close;
 mod desk;
 mod entry;
 mod event;

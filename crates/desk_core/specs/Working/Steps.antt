@@ -81,3 +81,8 @@ parcel_at jobs batches (Some b) = Some (record { batch = b; tasks = option_map_o
 pub record CanGoOut (jobs : List Job) (b : Batch) : Type 0 where
   pub inside : b.first + b.count ≤ length jobs
   pub fits : WithinBatch (tasks_in jobs b)
+
+-- ---- ask
+
+abbrev pub yes_or_no : Bool → Reply
+yes_or_no held = if held then reply.Yes else reply.No
