@@ -19,3 +19,4 @@ pub mod SealTurn
 pub mod TakeTurn
 pub mod Isolated
 pub mod PlainTurns
+pub mod BackTurn

@@ -42,12 +42,12 @@ use Rattle.desk_core.proofs.SoundSteps.{first_is_sealed}
 
 -- ---- the batch gets another phase
 
-moved_plain : (bs : List Batch) (b : ℕ) (p : Phase) → map plain_batch (batches_moved bs (Some b) p) ≡ set_phase (map plain_batch bs) b p
+pub moved_plain : (bs : List Batch) (b : ℕ) (p : Phase) → map plain_batch (batches_moved bs (Some b) p) ≡ set_phase (map plain_batch bs) b p
 moved_plain [] b p = refl
 moved_plain (x ∷ bs) zero p = refl
 moved_plain (x ∷ bs) (suc b) p = ap (map plain_batch) (moved_step x bs b p) ∙ ap (λ (xs : List PlainBatch). plain_batch x ∷ xs) (moved_plain bs b p)
 
-certs_moved : (jobs : List Job) (bs : List Batch) (b : ℕ) (p : Phase) → p ≢ phase.Registered → phase_in (map plain_batch bs) b ≢ phase.Registered → All (KeepsCert jobs) bs → All (KeepsCert jobs) (batches_moved bs (Some b) p)
+pub certs_moved : (jobs : List Job) (bs : List Batch) (b : ℕ) (p : Phase) → p ≢ phase.Registered → phase_in (map plain_batch bs) b ≢ phase.Registered → All (KeepsCert jobs) bs → All (KeepsCert jobs) (batches_moved bs (Some b) p)
 certs_moved jobs [] b p new old all = all
 certs_moved jobs (x ∷ bs) zero p new old all =
     let h = All-head (KeepsCert jobs) x bs all in
@@ -80,7 +80,7 @@ count_same (x ∷ bs) (suc b) p =
     sum_cons (λ (y : Batch). y.count) x bs ∙ (ap (λ (n : ℕ). x.count + n) (count_same bs b p)
     ∙ (sym (sum_cons (λ (y : Batch). y.count) x (batches_moved bs (Some b) p)) ∙ ap jobs_batched (sym (moved_step x bs b p))))
 
-batched_same : (bs : List Batch) (o : Option ℕ) (p : Phase) → jobs_batched bs ≡ jobs_batched (batches_moved bs o p)
+pub batched_same : (bs : List Batch) (o : Option ℕ) (p : Phase) → jobs_batched bs ≡ jobs_batched (batches_moved bs o p)
 batched_same bs None p = refl
 batched_same bs (Some b) p = count_same bs b p
 

@@ -7,6 +7,7 @@ mod close;
 mod desk;
 mod entry;
 mod event;
+mod give_back;
 mod job;
 mod laws;
 pub mod limits;

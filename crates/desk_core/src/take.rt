@@ -106,7 +106,7 @@ fn copies(alloc: Global, jobs: &[Job], batch: &Batch) -> Result<Vec<Checked>, Al
     Ok(tasks)
 }
 
-fn move_batch(batches: &mut Vec<Batch>, found: Option<u32>, phase: Phase)
+pub(crate) fn move_batch(batches: &mut Vec<Batch>, found: Option<u32>, phase: Phase)
     requires { IfSome found (λ b. b < length batches.old.items) }
     ensures { batches.new.items ≡ batches_moved batches.old.items found phase }
 {

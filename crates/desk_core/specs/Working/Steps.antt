@@ -4,6 +4,7 @@ use Rattle.std.specs.Option.{option_map_or}
 use Rattle.cairo_model.specs.Pie.Acceptance.{AcceptedWith}
 use Rattle.boot_program.specs.Batch.Parcels.{ParcelRecord, WithinBatch}
 use Rattle.desk_core.specs.DeskRecords.{tasks_in}
+use Rattle.desk_core.specs.Desks.{is_taken_by}
 use Rattle.desk_core.specs.Limits.{most_client_cells, most_client_pies, most_client_steps, most_clients}
 use Rattle.desk_core.specs.Quotas.{reply_by_totals}
 use Rattle.desk_core.specs.declared.event.OfferNote.{OfferNote}
@@ -86,3 +87,21 @@ pub record CanGoOut (jobs : List Job) (b : Batch) : Type 0 where
 
 abbrev pub yes_or_no : Bool → Reply
 yes_or_no held = if held then reply.Yes else reply.No
+
+-- ---- give_back
+
+abbrev pub phase_of_batch : List Batch → ℕ → Phase
+phase_of_batch batches b = option_map_or (λ x. x.phase) (slice_get batches b) phase.NoBatch
+
+-- the batch's number, where it is taken by the pass
+abbrev pub held_number : ℕ → ℕ → Phase → Option ℕ
+held_number pass b p = if is_taken_by pass p then Some b else None
+
+abbrev pub given_back : Option ℕ → Phase → Reply
+given_back None p = reply.NotTaken p
+given_back (Some b) p = reply.Returned
+
+-- how many batches stand before the first sealed one, where this one is sealed again
+abbrev pub earlier : ℕ → Option ℕ → ℕ
+earlier next None = next
+earlier next (Some b) = if nat_lt b next then b else next
