@@ -20,3 +20,5 @@ pub mod TakeTurn
 pub mod Isolated
 pub mod PlainTurns
 pub mod BackTurn
+pub mod SameLists
+pub mod RegisterTurn

@@ -147,7 +147,7 @@ within_batch js some fits =
       few_cells = omega (arith, fits.few_cells, cells_are js);
     }
 
-stretched : (jobs : List Job) (b : Batch) → jobs_in (map plain_job jobs) (plain_batch b) ≡ map plain_job (take b.count (drop b.first jobs))
+pub stretched : (jobs : List Job) (b : Batch) → jobs_in (map plain_job jobs) (plain_batch b) ≡ map plain_job (take b.count (drop b.first jobs))
 stretched jobs b = ap (take b.count) (drop-map plain_job b.first jobs) ∙ take-map plain_job b.count (drop b.first jobs)
 
 can_go_out : (jobs : List Job) (b : Batch) → IsBatchOf (map plain_job jobs) (plain_batch b) → CanGoOut jobs b

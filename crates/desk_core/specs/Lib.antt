@@ -11,4 +11,5 @@ pub mod DeskRecords
 pub mod GoodDesks
 pub mod Turns
 pub mod Kept
+pub mod Registrations
 pub mod Working

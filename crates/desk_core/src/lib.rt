@@ -16,7 +16,10 @@ mod offer;
 mod phase;
 mod quota;
 mod reads;
+mod register;
+mod register_end;
 mod reply;
+mod same_tasks;
 mod seal;
 mod submit;
 mod take;
@@ -32,4 +35,5 @@ pub use laws::{
 };
 pub use offer::Offer;
 pub use phase::{JobPhase, Phase};
+pub use register_end::RegisterEnd;
 pub use reply::{QuotaKind, Reply};
