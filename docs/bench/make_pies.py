@@ -65,13 +65,17 @@ def full_of(full, values):
     return pie(4, {0: numbers(code + [RETURN]), 1: stack, full: numbers(values)})
 
 
-def counting_down(rounds):
+def counting_segments(rounds):
     code = [SET, 1, SET, 1, SET, rounds, *ROUND, OUTPUT, ADD[2], 1, COPY[3], COPY[4], RETURN]
     stack = frame() + numbers([1, 1, rounds])
     for left in range(rounds - 1, -1, -1):
         stack += numbers([1, 1, left])
     stack += [place(2, 1), place(3, 0), place(4, 0)]
-    return pie(8 + 4 * rounds, {0: numbers(code), 1: stack, 2: numbers([1])})
+    return {0: numbers(code), 1: stack, 2: numbers([1])}
+
+
+def counting_down(rounds):
+    return pie(8 + 4 * rounds, counting_segments(rounds))
 
 
 def long_program(words):

@@ -3,4 +3,5 @@ mod KeptBytes
 mod OneAnswer
 mod WordLemmas
 pub mod CheckLemmas
+pub mod TakenSoFar
 pub mod VerdictStatus

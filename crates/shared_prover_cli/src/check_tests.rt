@@ -1,4 +1,4 @@
-use crate::asking::answer;
+use crate::asking::{answer, answer_in_pieces};
 use crate::vectors::{
     ADDR, BACK, BACK_CERTIFICATE, DOWN_3, DOWN_3_CERTIFICATE, EMPTY, EMPTY_CERTIFICATE, FIVE,
     FIVE_CERTIFICATE, HASH_CERTIFICATE, HASH0, RANGE_7, RANGE_CERTIFICATE, SILENT_CERTIFICATE,
@@ -100,6 +100,24 @@ fn the_first_fault_is_named(rt: HostRuntime) -> Result<(), Fail> {
         answer(&rt, "check", longer)?.1.as_slice(),
         b"refused certificate 5 1\n".as_slice()
     );
+    Ok(())
+}
+
+#[test]
+fn bytes_that_come_one_by_one_have_the_same_answer(rt: HostRuntime) -> Result<(), Fail> {
+    let many: &[(usize, u8)] = &[(61, 0xff), (62, 0xff), (63, 0xff), (64, 0xff)];
+    let rows: [(&[(usize, u8)], &[u8], &str); 4] = [
+        (&[], &[], "accepted alone 6 outputs 5\n"),
+        (many, &[], "refused certificate 2 525\n"),
+        (&[(8, 2)], &[], "refused certificate 3 8\n"),
+        (&[], &[0], "refused certificate 5 1\n"),
+    ];
+    for (changes, more, text) in rows {
+        let mut bytes = changed(rt.alloc(), FIVE_CERTIFICATE, changes)?;
+        bytes.extend_from_slice(more)?;
+        let found = answer_in_pieces(&rt, "check", bytes, 1)?;
+        assert_eq!(rt; found.1.as_slice(), text.as_bytes(), "{text}");
+    }
     Ok(())
 }
 

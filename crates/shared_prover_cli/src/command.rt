@@ -1,5 +1,5 @@
 ghost use Rattle.std.specs.Prelude.{◌≡◌, [], ◌∷◌, IfSome, IfNone, Some, None, Option};
-ghost use Rattle.shared_prover_cli.specs.Commands.{Asks, AsksForNone, IsPlainCommand, reads_input as reads_by_table, row_of};
+ghost use Rattle.shared_prover_cli.specs.Commands.{Asks, AsksForNone, IsPlainCommand, row_of};
 
 /// What the program can be asked to do.
 #[derive(Clone, Copy, Debug, PartialEq, Eq)]
@@ -10,22 +10,10 @@ pub enum Command {
     Place,
     /// Writes the listing of the code of a PIE that is accepted alone.
     List,
-    /// Says whether the machine accepts a certificate of a PIE alone.
+    /// Says whether a certificate is accepted.
     Check,
     /// Writes the words of the bootloader.
     Boot,
-}
-
-impl Command {
-    /// Whether the command reads the input.
-    pub fn reads_input(self) -> bool
-        ensures { result ≡ reads_by_table self }
-    {
-        match self {
-            Command::Replay | Command::Place | Command::List | Command::Check => true,
-            Command::Boot => false,
-        }
-    }
 }
 
 /// The command that the words ask for.

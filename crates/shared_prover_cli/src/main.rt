@@ -31,6 +31,7 @@ mod run;
 mod status;
 mod stream;
 mod sure;
+mod taker;
 #[cfg(test)]
 mod tests;
 mod texts;

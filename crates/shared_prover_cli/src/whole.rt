@@ -1,10 +1,12 @@
-ghost use Rattle.std.specs.Prelude.{◌≡◌, ◌≢◌, ◌≤◌, Err, IfOk, OnErr, OnOk, vec_len};
+ghost use Rattle.std.specs.Prelude.{◌≡◌, ◌≢◌, ◌≤◌, [], Err, IfOk, OnErr, OnOk, vec_len};
 ghost use Rattle.std.specs.Io.KnownBytes.{Appends};
 ghost use Rattle.shared_prover_cli.specs.Faults.{HasCause, Rose};
 ghost use Rattle.shared_prover_cli.specs.WholeStreams.{AppendsPart, ConsumesAll, ConsumesAtMost, ConsumesMoreThan};
+ghost use Rattle.shared_prover_cli.specs.Working.Takings.{TakesAll};
 
 use crate::limits::READ_BYTES;
 use crate::stream::{Failed, Sink, Source};
+use crate::taker::Taker;
 use std::alloc::{AllocError, Global};
 
 /// Why an input was not read whole.
@@ -53,16 +55,40 @@ pub fn read_whole<S: Source>(
     ensures faults { S.faults source.old ≤ S.faults source.new }
 {
     let mut bytes = Vec::new(alloc);
+    read_into(alloc, source, limit, &mut bytes)?;
+    Ok(bytes)
+}
+
+/// Hands all that is left of a source, where it has at most `limit` bytes, piece by piece to a taker that took nothing yet.
+/// After an error it has taken a beginning, or it failed.
+pub fn read_into<S: Source, T: Taker>(
+    alloc: Global,
+    source: &mut S,
+    limit: usize,
+    taker: &mut T,
+) -> Result<(), InputFault>
+    requires { T.has_taken taker.old [] }
+    ensures all { OnOk result (TakesAll limit (S.left source.old) (S.left source.new) (T.has_taken taker.new)) }
+    ensures long { result ≡ Err InputFault.TooLong →
+        ConsumesMoreThan limit (S.left source.old) (S.left source.new) }
+    ensures within { result ≢ Err InputFault.TooLong →
+        ConsumesAtMost limit (S.left source.old) (S.left source.new) }
+    ensures failed { result ≡ Err InputFault.ReadFault →
+        Rose (S.faults source.old) (S.faults source.new) }
+    ensures faults { S.faults source.old ≤ S.faults source.new }
+{
     let mut piece = zeros(alloc, READ_BYTES)?;
+    let mut done = 0;
     loop {
         let count = source.read(piece.as_mut_slice())?;
         if count == 0 {
-            return Ok(bytes);
+            return Ok(());
         }
-        if count > limit - bytes.len() {
+        if count > limit - done {
             return Err(InputFault::TooLong);
         }
-        bytes.extend_from_slice(&piece[..count])?;
+        taker.take(&piece[..count])?;
+        done += count;
     }
 }
 

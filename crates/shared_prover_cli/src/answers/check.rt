@@ -1,6 +1,7 @@
-ghost use Rattle.std.specs.Prelude.{◌≡◌, ◌-◌, IfOk, length};
+ghost use Rattle.std.specs.Prelude.{◌≡◌, ◌-◌, ℕ, List, IfOk, length};
 ghost use Rattle.shared_prover_cli.specs.Answers.CheckTexts.{CheckLine};
 ghost use Rattle.cairo_model.specs.Certificate.Acceptance.{MachineAccepts};
+ghost use Rattle.cert_format.specs.Feeding.{IsFed};
 ghost use Rattle.shared_prover_cli.specs.Working.Checking.{AcceptedReply};
 ghost use Rattle.shared_prover_cli.specs.Working.Replies.{reply_view};
 
@@ -8,7 +9,7 @@ use crate::check_texts::{accepted_line, certificate_line, fault_line};
 use crate::outputs::outputs_of;
 use crate::reply::{Outcome, Reply};
 use cairo_model::{Cert, End};
-use cert_format::read_cert;
+use cert_format::CertReader;
 use row_checker::{accepted_has_no_fault, check_run};
 use std::alloc::{AllocError, Global};
 use std::thread::Threads;
@@ -16,15 +17,15 @@ use std::thread::Threads;
 /// In how many chunks the rows of a certificate are checked, each in a thread of its own where there are processors.
 const CHUNKS: usize = 8;
 
-/// Whether the certificate that the input is is accepted, or else its first fault.
+/// Whether the certificate that the reader was fed is accepted, or else its first fault.
 pub fn check_answer<R: Threads + Sync>(
     rt: &R,
     alloc: Global,
-    input: &[u8],
+    reader: CertReader,
 ) -> Result<Reply, AllocError>
-    ensures { IfOk result (λ reply. CheckLine input.now (reply_view reply)) }
+    ensures { IfOk result (λ reply. (fed : List ℕ) → IsFed reader fed → CheckLine fed (reply_view reply)) }
 {
-    let cert = match read_cert(alloc, input) {
+    let cert = match reader.finish() {
         Ok(cert) => cert,
         Err(End::Refused(refusal)) => return Ok(refused(certificate_line(alloc, refusal)?)),
         Err(End::OutOfMemory) => return Err(AllocError),
