@@ -1,0 +1,11 @@
+pub mod Cuts
+pub mod Decimals
+pub mod Digits
+pub mod Hashes
+pub mod Verbs
+pub mod Outputs
+pub mod FieldRules
+pub mod ReadLines
+pub mod Walks
+pub mod Refusing
+pub mod OneReading

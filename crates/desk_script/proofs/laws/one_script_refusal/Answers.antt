@@ -1,0 +1,5 @@
+use Rattle.desk_script.proofs.OneReading as lemmas
+use Rattle.desk_script.proofs.laws.one_script_refusal.Goals as goal
+
+pub returns : goal.returns
+returns c = lemmas.one_script_refusal
