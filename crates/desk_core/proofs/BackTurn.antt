@@ -1,10 +1,10 @@
 -- The giving back of a batch is a turn.
 use Rattle.std.proofs.Common.{◌≡◌, ◌≢◌, ℕ, zero, suc, ◌+◌, ◌%◌, ◌^◌, Bool, true, false, cond, not, List, [], ◌∷◌, ◌++◌, map, refl, sym, ap, ◌∙◌, subst, arith}
-use Rattle.std.specs.Prelude.{Option, Some, None, nat_lt, slice_get}
+use Rattle.std.specs.Prelude.{Option, Some, None, nat_lt}
 use Rattle.std.proofs.lemmas.Bool.Decides.{nat_tests}
 use Rattle.fact_registry.specs.Registries.{with_facts}
 use Rattle.desk_core.specs.DeskRecords.{DeskRecord, plain_batch, plain_job, plain_of}
-use Rattle.desk_core.specs.Desks.{PlainDesk, is_sealed, is_taken_by, phase_at, set_phase}
+use Rattle.desk_core.specs.Desks.{is_sealed, is_taken_by, phase_at}
 use Rattle.desk_core.specs.GoodDesks.{IsGoodDesk}
 use Rattle.desk_core.specs.Kept.{IsKept, before_sealed, jobs_batched}
 use Rattle.desk_core.specs.Next.{after_event, after_give_back, reply_to}

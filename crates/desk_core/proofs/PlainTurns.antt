@@ -8,7 +8,6 @@ use Rattle.fact_registry.specs.Registries.{with_facts}
 use Rattle.fact_registry.proofs.FactLists.{found_is_there, stays_or_comes, there_is_found, was_or_came}
 use Rattle.desk_core.specs.DeskRecords.{DeskRecord, plain_batch, plain_job, plain_of, registered_in}
 use Rattle.desk_core.specs.Desks.{shown_facts}
-use Rattle.desk_core.specs.GoodDesks.{IsGoodDesk}
 use Rattle.desk_core.specs.Journals.{no_pie}
 use Rattle.desk_core.specs.Kept.{IsKept}
 use Rattle.desk_core.specs.Next.{after_event, ask_reply, reply_to}

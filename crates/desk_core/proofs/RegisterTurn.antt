@@ -1,28 +1,27 @@
 -- A registration is a turn.
-use Rattle.std.proofs.Common.{◌≡◌, ◌≢◌, ℕ, zero, suc, ◌+◌, ◌≤◌, ◌<◌, ◌%◌, ◌^◌, Bool, true, false, cond, not, List, [], ◌∷◌, ◌++◌, length, map, take, drop, refl, sym, ap, ◌∙◌, subst, arith}
-use Rattle.std.specs.Prelude.{All, IfSome, Option, Some, None, option_map, slice_get, slice_set}
+use Rattle.std.proofs.Common.{◌≡◌, ◌≢◌, ℕ, zero, suc, ◌+◌, ◌%◌, ◌^◌, Bool, true, false, cond, not, List, [], ◌∷◌, ◌++◌, map, take, drop, refl, sym, ap, ◌∙◌, subst}
+use Rattle.std.specs.Prelude.{All, Option, Some, None, option_map, slice_get, slice_set}
 use Rattle.std.specs.Option.{option_map_or}
 use Rattle.std.proofs.lemmas.Option.{slice_get-map}
 use Rattle.std.proofs.lemmas.List.Elements.{All-cons, All-drop, All-head, All-tail, All-take, filter_map-append}
 use Rattle.cairo_model.specs.Certificate.Records.{CertRecord}
 use Rattle.cairo_model.specs.Pie.Acceptance.{CheckedRecord, FactRecord}
 use Rattle.cairo_model.specs.Pie.Facts.{fact_of}
-use Rattle.cairo_model.specs.Pie.Records.{PieRecord}
 use Rattle.boot_program.specs.Batch.Acceptance.{AcceptsBatch}
 use Rattle.boot_program.specs.Batch.Parcels.{CertifiedRecord, ParcelRecord}
 use Rattle.boot_program.specs.Batch.Standing.{AllStandIn}
 use Rattle.fact_registry.specs.Registries.{with_facts}
-use Rattle.desk_core.specs.DeskRecords.{DeskRecord, plain_batch, plain_job, plain_of, registered_in, registers_at, tasks_at, tasks_in}
+use Rattle.desk_core.specs.DeskRecords.{DeskRecord, plain_batch, plain_job, plain_of, registers_at, tasks_at, tasks_in}
 use Rattle.desk_core.specs.Desks.{PlainBatch, PlainJob, is_sealed, is_taken_by, jobs_at, phase_at, set_phase, shown_facts}
 use Rattle.desk_core.specs.Quotas.{is_admitted}
 use Rattle.desk_core.specs.Journals.{no_pie}
 use Rattle.desk_core.specs.Turns.{IsTurn}
-use Rattle.desk_core.specs.GoodDesks.{HasCert, IsAcceptedJob, IsGoodDesk, KeepsCert}
+use Rattle.desk_core.specs.GoodDesks.{IsAcceptedJob, IsGoodDesk, KeepsCert}
 use Rattle.desk_core.specs.Kept.{IsKept, before_sealed, jobs_batched}
 use Rattle.desk_core.specs.Next.{after_event, after_register, parcel_reply, reply_to}
 use Rattle.desk_core.specs.RegisteredFacts.{registry_of}
-use Rattle.desk_core.specs.Registrations.{IsLeastDifference, IsRegisterEnd, IsRegistering, KeepsJust, SamePieAt, pies_in}
-use Rattle.desk_core.specs.Working.Registering.{IsFound, SameTaskAt, certified_at, checked_in, facts_kept, is_welcome, jobs_numbered, jobs_within, refused_end, registering_reply}
+use Rattle.desk_core.specs.Registrations.{IsLeastDifference, IsRegisterEnd, IsRegistering, KeepsJust, pies_in}
+use Rattle.desk_core.specs.Working.Registering.{IsFound, certified_at, checked_in, facts_kept, is_welcome, jobs_numbered, jobs_within, refused_end, registering_reply}
 use Rattle.desk_core.specs.Working.Steps.{held_number, phase_of_batch}
 use Rattle.desk_core.specs.declared.batch.Batch.{Batch}
 use Rattle.desk_core.specs.declared.entry.Entry.{Entry}

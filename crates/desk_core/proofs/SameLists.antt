@@ -1,10 +1,10 @@
 -- Lists that are the same place by place, and tasks with the same PIE.
 use Rattle.std.proofs.Common.{◌≡◌, ◌≢◌, ◌↔◌, ℕ, zero, suc, ◌≤◌, ◌<◌, List, [], ◌∷◌, length, map, sym, ap, ◌∙◌, subst, refl, arith}
-use Rattle.std.specs.Prelude.{None, Option, Some, option_map, slice_get}
+use Rattle.std.specs.Prelude.{None, Some, option_map, slice_get}
 use Rattle.std.proofs.lemmas.Option.{slice_get-map, slice_get_past}
 use Rattle.std.proofs.lemmas.List.{length-map}
 use Rattle.cairo_model.specs.Pie.Acceptance.{AcceptedWith, CheckedRecord}
-use Rattle.cairo_model.specs.Pie.Records.{MemoryCell, PieRecord}
+use Rattle.cairo_model.specs.Pie.Records.{PieRecord}
 use Rattle.desk_core.specs.Registrations.{SamePieAt, pies_in}
 use Rattle.desk_core.specs.Working.Registering.{SameTaskAt, checked_in}
 use Rattle.desk_core.specs.declared.job.Job.{Job}

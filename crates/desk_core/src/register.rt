@@ -43,7 +43,12 @@ impl Desk {
             return RegisterEnd::OutOfMemory(certified);
         };
         if !is_welcome(held, differs) {
-            write(&mut self.entries, pass, Event::Register(batch, differs), &reply);
+            write(
+                &mut self.entries,
+                pass,
+                Event::Register(batch, differs),
+                &reply,
+            );
             return refused(held, phase, differs, certified);
         }
         let Ok(facts) = facts_of(alloc, kept) else {
@@ -54,7 +59,12 @@ impl Desk {
         };
         let (cert, _) = certified.into_parts();
         keep(&mut self.batches, batch, cert);
-        write(&mut self.entries, pass, Event::Register(batch, differs), &reply);
+        write(
+            &mut self.entries,
+            pass,
+            Event::Register(batch, differs),
+            &reply,
+        );
         RegisterEnd::Done
     }
 }

@@ -1,4 +1,4 @@
-use Rattle.std.proofs.Common.{length, below_more, arith, rules}
+use Rattle.std.proofs.Common.{below_more, arith, rules}
 use Rattle.std.proofs.lemmas.List.{length-map}
 use Rattle.desk_core.specs.Working.Registering.{checked_in}
 use Rattle.desk_core.specs.declared.job.Job.{Job}

@@ -1,4 +1,4 @@
-use Rattle.std.proofs.Common.{◌≡◌, ◌<◌, List, [], ◌∷◌, ◌++◌, sym, ap, ◌∙◌, subst}
+use Rattle.std.proofs.Common.{◌<◌, List, [], ◌∷◌, ◌++◌, sym, ap, ◌∙◌, subst}
 use Rattle.desk_core.specs.DeskRecords.{DeskRecord}
 use Rattle.desk_core.specs.GoodDesks.{IsGoodDesk}
 use Rattle.desk_core.specs.Journals.{no_pie}
@@ -26,6 +26,6 @@ pub returns-clause-good : goal.returns-clause-good
 returns-clause-good c = (
   subst IsGoodDesk c.self.view_is c.self.invariant.good,
   (asked_leaves _ c.args.pass c.args.client c.args.fact.now c.in_ok-copy.copy c.yes_or_no-reply.result c.write.new.entries.items _ _ _ c.self.invariant
-    (subst (λ (x : DeskRecord). c.args.client < x.clients) (sym c.self.view_is) c.requires) c.in_ok-copy.ensures (c.yes_or_no-reply.ensures ∙ ap yes_or_no c.is_held-held.ensures)
-    (c.write.ensures ∙ ap (λ (es : List Entry). es ++ record { pass = c.args.pass; event = Ask c.args.client c.in_ok-copy.copy; reply = c.yes_or_no-reply.result } ∷ []) c.reserve.ensures.items)).kept.good,
+      (subst (λ (x : DeskRecord). c.args.client < x.clients) (sym c.self.view_is) c.requires) c.in_ok-copy.ensures (c.yes_or_no-reply.ensures ∙ ap yes_or_no c.is_held-held.ensures)
+      (c.write.ensures ∙ ap (λ (es : List Entry). es ++ record { pass = c.args.pass; event = Ask c.args.client c.in_ok-copy.copy; reply = c.yes_or_no-reply.result } ∷ []) c.reserve.ensures.items)).kept.good,
 )
