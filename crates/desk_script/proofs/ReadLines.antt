@@ -17,7 +17,7 @@ use Rattle.desk_script.proofs.FieldRules.{FieldsBreak, all_kept, breaks_client, 
 use Rattle.desk_script.proofs.Hashes.{HashTold, hash_read, hash_told}
 use Rattle.desk_script.proofs.Outputs.{NumbersTold, numbers_read, numbers_told}
 use Rattle.desk_script.proofs.Verbs.{IsText, verb_text}
-use Rattle.desk_script.specs.Lines.{ScriptLine, submits, asks, asks_status, settles, IsHash, IsLine, verb_of}
+use Rattle.desk_script.specs.Lines.{ScriptLine, submits, asks, asks_status, settles, IsHash, IsScriptLine, verb_of}
 use Rattle.desk_script.specs.Scripts.{FieldsKeep, HasCount, HasHex, HasNumbers, IsNumberBelow}
 use Rattle.desk_script.specs.Working.Numbers.{number_in}
 use Rattle.desk_script.specs.Working.Reading.{bytes_in, hash_in, numbers_in, read_as, read_ask, read_line, read_settle, read_status, read_submit}
@@ -28,7 +28,7 @@ use Rattle.desk_script.specs.declared.verb.Verb.TheVariants.{Submit, Ask, Status
 
 -- the line that the fields are, which keep each rule, or the first rule that they break
 abbrev pub Told : ℕ → List (List ℕ) → Result ScriptLine ScriptKind → Type 0
-Told clients fields (Ok line) = IsLine clients fields line × ((k : ScriptKind) → FieldsKeep clients fields k)
+Told clients fields (Ok line) = IsScriptLine clients fields line × ((k : ScriptKind) → FieldsKeep clients fields k)
 Told clients fields (Err k) = FieldsBreak clients fields k
 
 -- ---- the rules of a line whose verb is known
@@ -196,14 +196,14 @@ module _ (clients : ℕ) (few : clients ≤ 2 ^ 64) where
   unfolding read_settle
   settle_read c below = required_goes kind.Client (number_in clients (decimal c)) _ (settles c) c (number_of_decimal clients c few below) refl
 
-  pub read_back : (fields : List (List ℕ)) (line : ScriptLine) → IsLine clients fields line → read_line clients fields ≡ Ok line
+  pub read_back : (fields : List (List ℕ)) (line : ScriptLine) → IsScriptLine clients fields line → read_line clients fields ≡ Ok line
   read_back fields (submits c bytes) (below, (digits, decoded, is)) = ap (read_line clients) is ∙ submit_read c digits bytes below decoded
   read_back fields (asks c fact) (below, felts, (hash, is_hash, program, is)) = ap (read_line clients) is ∙ ask_read c hash fact below is_hash program felts
   read_back fields (asks_status c n) (below, small, is) = ap (read_line clients) is ∙ status_read c n below small
   read_back fields (settles c) (below, is) = ap (read_line clients) is ∙ settle_read c below
 
-  pub line_keeps : (fields : List (List ℕ)) (line : ScriptLine) → IsLine clients fields line → (k : ScriptKind) → FieldsKeep clients fields k
+  pub line_keeps : (fields : List (List ℕ)) (line : ScriptLine) → IsScriptLine clients fields line → (k : ScriptKind) → FieldsKeep clients fields k
   line_keeps fields line is = (subst (Told clients fields) (read_back fields line is) (told clients few fields)).1
 
-  pub one_line : (fields : List (List ℕ)) (a b : ScriptLine) → IsLine clients fields a → IsLine clients fields b → a ≡ b
+  pub one_line : (fields : List (List ℕ)) (a b : ScriptLine) → IsScriptLine clients fields a → IsScriptLine clients fields b → a ≡ b
   one_line fields a b is_a is_b = ok_is {E = ScriptKind} a b (sym (read_back fields a is_a) ∙ read_back fields b is_b)

@@ -8,8 +8,8 @@ use Rattle.cairo_model.specs.declared.end.End.TheVariants.{Refused}
 use Rattle.desk_script.specs.Limits.{most_lines}
 use Rattle.desk_script.proofs.FieldRules.{FieldsBreak}
 use Rattle.desk_script.proofs.Walks.{Walked, next_piece, some_pieces}
-use Rattle.desk_script.specs.Lines.{ScriptLine, fields_of}
-use Rattle.desk_script.specs.Scripts.{BreaksFirst, FieldsKeep, IsFirstBadLine, IsLineAt, LineKeeps, kind_number, pieces_of}
+use Rattle.desk_script.specs.Lines.{ScriptLine, line_fields}
+use Rattle.desk_script.specs.Scripts.{BreaksFirst, FieldsKeep, IsFirstBadScriptLine, IsLineAt, LineKeeps, kind_number, pieces_of}
 use Rattle.desk_script.specs.declared.kinds.ScriptKind.{ScriptKind}
 use Rattle.desk_script.specs.declared.kinds.ScriptKind.TheVariants as kind
 use Rattle.desk_script.specs.declared.kinds.ScriptRefusal.{ScriptRefusal}
@@ -21,7 +21,7 @@ refusal_is e r made same is =
     let both : Refused r ≡ Refused made = sym first ∙ is in
     cc
 
-keeps_until : (clients : ℕ) (pieces : List (List ℕ)) (k limit : ℕ) → (1 < limit → suc k < length pieces) → ((other : ScriptKind) → kind_number other < limit → FieldsKeep clients (fields_of (get_or pieces k [])) other)
+keeps_until : (clients : ℕ) (pieces : List (List ℕ)) (k limit : ℕ) → (1 < limit → suc k < length pieces) → ((other : ScriptKind) → kind_number other < limit → FieldsKeep clients (line_fields (get_or pieces k [])) other)
     → (7 < limit → k < most_lines) → (other : ScriptKind) → kind_number other < limit → LineKeeps clients pieces k other
 keeps_until clients pieces k limit ends keeps few kind.NoEnd below = ends below
 keeps_until clients pieces k limit ends keeps few kind.Verb below = keeps kind.Verb below
@@ -31,7 +31,7 @@ keeps_until clients pieces k limit ends keeps few kind.Hex below = keeps kind.He
 keeps_until clients pieces k limit ends keeps few kind.Number below = keeps kind.Number below
 keeps_until clients pieces k limit ends keeps few kind.TooMany below = few below
 
-breaks_there : (clients : ℕ) (pieces : List (List ℕ)) (k : ℕ) (broken : ScriptKind) → ¬ FieldsKeep clients (fields_of (get_or pieces k [])) broken → ¬ LineKeeps clients pieces k broken
+breaks_there : (clients : ℕ) (pieces : List (List ℕ)) (k : ℕ) (broken : ScriptKind) → ¬ FieldsKeep clients (line_fields (get_or pieces k [])) broken → ¬ LineKeeps clients pieces k broken
 breaks_there clients pieces k kind.NoEnd fault = absurd (fault tt)
 breaks_there clients pieces k kind.Verb fault = fault
 breaks_there clients pieces k kind.Fields fault = fault
@@ -59,7 +59,7 @@ none_below kind.Number below = absurd (omega arith)
 none_below kind.TooMany below = absurd (omega arith)
 
 found : (clients : ℕ) (bytes : List ℕ) (lines : List ScriptLine) (left : List ℕ) (broken : ScriptKind) (r : ScriptRefusal) → Walked clients bytes lines left → IsLineAt (pieces_of bytes) (length lines)
-    → BreaksFirst clients (pieces_of bytes) (length lines) broken → r ≡ record { line = length lines + 1; kind = broken } → IsFirstBadLine clients bytes r
+    → BreaksFirst clients (pieces_of bytes) (length lines) broken → r ≡ record { line = length lines + 1; kind = broken } → IsFirstBadScriptLine clients bytes r
 found clients bytes lines left broken r walked inside breaks is =
     record {
       index = length lines;
@@ -70,7 +70,7 @@ found clients bytes lines left broken r walked inside breaks is =
 
 -- the rest of the bytes is a line that no line feed ends
 pub no_end_found : (clients : ℕ) (bytes : List ℕ) (lines : List ScriptLine) (left text : List ℕ) (r : ScriptRefusal) → Walked clients bytes lines left → left ≢ [] → pieces_of left ≡ text ∷ []
-    → r ≡ record { line = length lines + 1; kind = kind.NoEnd } → IsFirstBadLine clients bytes r
+    → r ≡ record { line = length lines + 1; kind = kind.NoEnd } → IsFirstBadScriptLine clients bytes r
 no_end_found clients bytes lines left text r walked some cut is =
     let pieces : List (List ℕ) = pieces_of bytes in
     let n : ℕ = length lines in
@@ -86,13 +86,13 @@ ends_there bytes left text after n next = omega (arith, ap length next, some_pie
 
 -- the fields of the next line break a rule
 pub fields_found : (clients : ℕ) (bytes : List ℕ) (lines : List ScriptLine) (left text after : List ℕ) (broken : ScriptKind) (r : ScriptRefusal) → Walked clients bytes lines left
-    → pieces_of left ≡ text ∷ pieces_of after → FieldsBreak clients (fields_of text) broken → r ≡ record { line = length lines + 1; kind = broken } → IsFirstBadLine clients bytes r
+    → pieces_of left ≡ text ∷ pieces_of after → FieldsBreak clients (line_fields text) broken → r ≡ record { line = length lines + 1; kind = broken } → IsFirstBadScriptLine clients bytes r
 fields_found clients bytes lines left text after broken r walked cut breaks is =
     let pieces : List (List ℕ) = pieces_of bytes in
     let n : ℕ = length lines in
     let step = next_piece pieces n text (pieces_of after) walked.within (walked.left_is ∙ cut) in
     let ends : suc n < length pieces = ends_there bytes left text after n step.next in
-    let here : FieldsBreak clients (fields_of (get_or pieces n [])) broken = subst (λ (t : List ℕ). FieldsBreak clients (fields_of t) broken) (sym step.here) breaks in
+    let here : FieldsBreak clients (line_fields (get_or pieces n [])) broken = subst (λ (t : List ℕ). FieldsBreak clients (line_fields t) broken) (sym step.here) breaks in
     found clients bytes lines left broken r walked (inl ends)
     (record {
       breaks = breaks_there clients pieces n broken here.breaks;
@@ -102,13 +102,13 @@ fields_found clients bytes lines left text after broken r walked cut breaks is =
 
 -- the next line is one too many
 pub too_many_found : (clients : ℕ) (bytes : List ℕ) (lines : List ScriptLine) (left text after : List ℕ) (r : ScriptRefusal) → Walked clients bytes lines left → pieces_of left ≡ text ∷ pieces_of after
-    → ((kept : ScriptKind) → FieldsKeep clients (fields_of text) kept) → most_lines ≤ length lines → r ≡ record { line = length lines + 1; kind = kind.TooMany } → IsFirstBadLine clients bytes r
+    → ((kept : ScriptKind) → FieldsKeep clients (line_fields text) kept) → most_lines ≤ length lines → r ≡ record { line = length lines + 1; kind = kind.TooMany } → IsFirstBadScriptLine clients bytes r
 too_many_found clients bytes lines left text after r walked cut keeps full is =
     let pieces : List (List ℕ) = pieces_of bytes in
     let n : ℕ = length lines in
     let step = next_piece pieces n text (pieces_of after) walked.within (walked.left_is ∙ cut) in
     let ends : suc n < length pieces = ends_there bytes left text after n step.next in
-    let here : (kept : ScriptKind) → FieldsKeep clients (fields_of (get_or pieces n [])) kept = subst (λ (t : List ℕ). (kept : ScriptKind) → FieldsKeep clients (fields_of t) kept) (sym step.here) keeps in
+    let here : (kept : ScriptKind) → FieldsKeep clients (line_fields (get_or pieces n [])) kept = subst (λ (t : List ℕ). (kept : ScriptKind) → FieldsKeep clients (line_fields t) kept) (sym step.here) keeps in
     found clients bytes lines left kind.TooMany r walked (inl ends)
     (record {
       breaks = λ few. absurd (omega arith);

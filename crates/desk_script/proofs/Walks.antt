@@ -4,8 +4,8 @@ use Rattle.std.proofs.lemmas.Bool.{cases_lt}
 use Rattle.std.proofs.lemmas.List.{append-nil, drop_more, length-append, length-drop}
 use Rattle.std.proofs.lemmas.List.Splits.{length-slice_split}
 use Rattle.desk_script.specs.Limits.{most_lines}
-use Rattle.desk_script.specs.Lines.{ScriptLine, IsLine, fields_of}
-use Rattle.desk_script.specs.Scripts.{AreLines, FieldsKeep, IsGoodLine, IsScript, LineKeeps, pieces_of}
+use Rattle.desk_script.specs.Lines.{ScriptLine, IsScriptLine, line_fields}
+use Rattle.desk_script.specs.Scripts.{AreScriptLines, FieldsKeep, IsGoodLine, IsScript, LineKeeps, pieces_of}
 use Rattle.desk_script.specs.declared.kinds.ScriptKind.{ScriptKind}
 use Rattle.desk_script.specs.declared.kinds.ScriptKind.TheVariants as kind
 
@@ -15,7 +15,7 @@ pub record Walked (clients : ℕ) (bytes : List ℕ) (lines : List ScriptLine) (
   pub within : length lines < length (pieces_of bytes)
   pub left_is : drop (length lines) (pieces_of bytes) ≡ pieces_of left
   pub good : (k : ℕ) → k < length lines → IsGoodLine clients (pieces_of bytes) k
-  pub joined : (rest : List ScriptLine) → AreLines clients (pieces_of left) rest → AreLines clients (pieces_of bytes) (lines ++ rest)
+  pub joined : (rest : List ScriptLine) → AreScriptLines clients (pieces_of left) rest → AreScriptLines clients (pieces_of bytes) (lines ++ rest)
 
 pub some_pieces : (bytes : List ℕ) → 0 < length (pieces_of bytes)
 some_pieces bytes = omega (arith, length-slice_split (λ c. c == 10) bytes)
@@ -35,7 +35,7 @@ next_piece pieces n text after inside left =
     let next : drop (n + 1) pieces ≡ after = cc in
     record { here = here; next = next }
 
-pub good_line : (clients : ℕ) (pieces : List (List ℕ)) (k : ℕ) → suc k < length pieces → k < most_lines → ((kept : ScriptKind) → FieldsKeep clients (fields_of (get_or pieces k [])) kept) → IsGoodLine clients pieces k
+pub good_line : (clients : ℕ) (pieces : List (List ℕ)) (k : ℕ) → suc k < length pieces → k < most_lines → ((kept : ScriptKind) → FieldsKeep clients (line_fields (get_or pieces k [])) kept) → IsGoodLine clients pieces k
 good_line clients pieces k ends few keeps kind.NoEnd = ends
 good_line clients pieces k ends few keeps kind.Verb = keeps kind.Verb
 good_line clients pieces k ends few keeps kind.Fields = keeps kind.Fields
@@ -50,13 +50,13 @@ good_until clients pieces n before here k below = elim (cases_lt k n) [
   | inr more ↦ let is : n ≡ k = omega arith in subst (IsGoodLine clients pieces) is here
 ]
 
-more_lines : (clients : ℕ) (text : List ℕ) (line : ScriptLine) (pieces : List (List ℕ)) (rest : List ScriptLine) → 0 < length pieces → IsLine clients (fields_of text) line → AreLines clients pieces rest
-    → AreLines clients (text ∷ pieces) (line ∷ rest)
+more_lines : (clients : ℕ) (text : List ℕ) (line : ScriptLine) (pieces : List (List ℕ)) (rest : List ScriptLine) → 0 < length pieces → IsScriptLine clients (line_fields text) line → AreScriptLines clients pieces rest
+    → AreScriptLines clients (text ∷ pieces) (line ∷ rest)
 more_lines clients text line [] rest some is are = absurd (omega arith)
 more_lines clients text line (next ∷ more) rest some is are = (line, rest, refl, is, are)
 
 pub walk_on : (clients : ℕ) (bytes : List ℕ) (lines : List ScriptLine) (left text after : List ℕ) (line : ScriptLine) → Walked clients bytes lines left → pieces_of left ≡ text ∷ pieces_of after
-    → IsLine clients (fields_of text) line → ((kept : ScriptKind) → FieldsKeep clients (fields_of text) kept) → length lines < most_lines → Walked clients bytes (lines ++ line ∷ []) after
+    → IsScriptLine clients (line_fields text) line → ((kept : ScriptKind) → FieldsKeep clients (line_fields text) kept) → length lines < most_lines → Walked clients bytes (lines ++ line ∷ []) after
 walk_on clients bytes lines left text after line walked cut is keeps few =
     let n : ℕ = length lines in
     let pieces : List (List ℕ) = pieces_of bytes in
@@ -64,7 +64,7 @@ walk_on clients bytes lines left text after line walked cut is keeps few =
     let step = next_piece pieces n text (pieces_of after) walked.within (walked.left_is ∙ cut) in
     let some : 0 < length (drop (n + 1) pieces) = omega (arith, ap length step.next, some_pieces after) in
     let ends : n + 1 < length pieces = omega (arith, some, length-drop (n + 1) pieces) in
-    let kept : (k : ScriptKind) → FieldsKeep clients (fields_of (get_or pieces n [])) k = subst (λ (t : List ℕ). (k : ScriptKind) → FieldsKeep clients (fields_of t) k) (sym step.here) keeps in
+    let kept : (k : ScriptKind) → FieldsKeep clients (line_fields (get_or pieces n [])) k = subst (λ (t : List ℕ). (k : ScriptKind) → FieldsKeep clients (line_fields t) k) (sym step.here) keeps in
     let here : IsGoodLine clients pieces n = good_line clients pieces n (omega (arith, ends)) few kept in
     record {
       few = omega (arith, count, few);
@@ -72,8 +72,8 @@ walk_on clients bytes lines left text after line walked cut is keeps few =
       left_is = ap (λ (m : ℕ). drop m pieces) count ∙ step.next;
       good = λ k below. good_until clients pieces n walked.good here k (omega (arith, below, count));
       joined = λ rest are.
-          subst (AreLines clients pieces) (sym (append_assoc lines (line ∷ []) rest))
-          (walked.joined (line ∷ rest) (subst (λ (ps : List (List ℕ)). AreLines clients ps (line ∷ rest)) (sym cut) (more_lines clients text line (pieces_of after) rest (some_pieces after) is are)));
+          subst (AreScriptLines clients pieces) (sym (append_assoc lines (line ∷ []) rest))
+          (walked.joined (line ∷ rest) (subst (λ (ps : List (List ℕ)). AreScriptLines clients ps (line ∷ rest)) (sym cut) (more_lines clients text line (pieces_of after) rest (some_pieces after) is are)));
     }
 
 pub nothing : (bytes : List ℕ) → length bytes ≡ 0 → bytes ≡ []
@@ -82,5 +82,5 @@ nothing (b ∷ bytes) none = absurd (omega arith)
 
 pub walk_ends : (clients : ℕ) (bytes : List ℕ) (lines : List ScriptLine) (left : List ℕ) → Walked clients bytes lines left → left ≡ [] → IsScript clients bytes lines
 walk_ends clients bytes lines left walked none =
-    let no_lines : AreLines clients (pieces_of left) [] = subst (λ (l : List ℕ). AreLines clients (pieces_of l) []) (sym none) (refl, refl) in
-    (subst (AreLines clients (pieces_of bytes)) (append-nil lines) (walked.joined [] no_lines), walked.few)
+    let no_lines : AreScriptLines clients (pieces_of left) [] = subst (λ (l : List ℕ). AreScriptLines clients (pieces_of l) []) (sym none) (refl, refl) in
+    (subst (AreScriptLines clients (pieces_of bytes)) (append-nil lines) (walked.joined [] no_lines), walked.few)

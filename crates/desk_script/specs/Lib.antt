@@ -2,4 +2,5 @@ pub mod Limits
 pub mod Lines
 pub mod Views
 pub mod Scripts
+pub mod Transcripts
 pub mod Working

@@ -17,8 +17,8 @@ pub data ScriptLine : Type 0 where
   settles : ℕ → ScriptLine
 
 -- what stands between the spaces of a line: one field more than it has spaces, each of which may be empty
-abbrev pub fields_of : List ℕ → List (List ℕ)
-fields_of text = slice_split (λ c. c == 32) text
+abbrev pub line_fields : List ℕ → List (List ℕ)
+line_fields text = slice_split (λ c. c == 32) text
 
 -- the verb that these bytes are, if they are one
 abbrev pub verb_of : List ℕ → Option Verb
@@ -34,12 +34,12 @@ abbrev pub IsHash : List ℕ → Type 0
 IsHash field = (length field ≡ hash_digits) × AllPass is_hex_digit field
 
 -- The fields are this line. Numbers are written in decimal and with no leading zero; hexadecimal digits may be of either case.
-abbrev pub IsLine : ℕ → List (List ℕ) → ScriptLine → Type 0
-IsLine clients fields (submits client bytes) =
+abbrev pub IsScriptLine : ℕ → List (List ℕ) → ScriptLine → Type 0
+IsScriptLine clients fields (submits client bytes) =
     (client < clients) × ((digits : List ℕ) × (decode_of digits ≡ Ok bytes) × (fields ≡ codes "submit" ∷ decimal client ∷ digits ∷ []))
-IsLine clients fields (asks client fact) =
+IsScriptLine clients fields (asks client fact) =
     (client < clients) × AllByRecursion IsFelt fact.outputs
     × ((hash : List ℕ) × IsHash hash × (fact.program ≡ words_in_text hash) × (fields ≡ codes "ask" ∷ decimal client ∷ hash ∷ map decimal fact.outputs))
-IsLine clients fields (asks_status client number) =
+IsScriptLine clients fields (asks_status client number) =
     (client < clients) × (number < job_limit) × (fields ≡ codes "status" ∷ decimal client ∷ decimal number ∷ [])
-IsLine clients fields (settles client) = (client < clients) × (fields ≡ codes "settle" ∷ decimal client ∷ [])
+IsScriptLine clients fields (settles client) = (client < clients) × (fields ≡ codes "settle" ∷ decimal client ∷ [])

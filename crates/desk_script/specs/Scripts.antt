@@ -5,7 +5,7 @@ use Rattle.cairo_model.specs.Refusals.FirstFailing.{IsFirstFailing}
 use Rattle.goldi_field.specs.Numbers.{prime}
 use Rattle.hex.specs.Hex.{decode_of}
 use Rattle.desk_script.specs.Limits.{job_limit, most_lines}
-use Rattle.desk_script.specs.Lines.{ScriptLine, IsHash, IsLine, fields_of, verb_of}
+use Rattle.desk_script.specs.Lines.{ScriptLine, IsHash, IsScriptLine, line_fields, verb_of}
 use Rattle.desk_script.specs.declared.kinds.ScriptKind.{ScriptKind}
 use Rattle.desk_script.specs.declared.kinds.ScriptKind.TheVariants as kind
 use Rattle.desk_script.specs.declared.kinds.ScriptRefusal.{ScriptRefusal}
@@ -17,15 +17,15 @@ abbrev pub pieces_of : List ℕ → List (List ℕ)
 pieces_of bytes = slice_split (λ c. c == 10) bytes
 
 -- each piece but the last is such a line, and the last is empty
-abbrev pub AreLines : ℕ → List (List ℕ) → List ScriptLine → Type 0
-AreLines clients [] lines = ⊥
-AreLines clients (last ∷ []) lines = (last ≡ []) × (lines ≡ [])
-AreLines clients (text ∷ next ∷ more) lines =
-    (line : ScriptLine) × (rest : List ScriptLine) × (lines ≡ line ∷ rest) × IsLine clients (fields_of text) line × AreLines clients (next ∷ more) rest
+abbrev pub AreScriptLines : ℕ → List (List ℕ) → List ScriptLine → Type 0
+AreScriptLines clients [] lines = ⊥
+AreScriptLines clients (last ∷ []) lines = (last ≡ []) × (lines ≡ [])
+AreScriptLines clients (text ∷ next ∷ more) lines =
+    (line : ScriptLine) × (rest : List ScriptLine) × (lines ≡ line ∷ rest) × IsScriptLine clients (line_fields text) line × AreScriptLines clients (next ∷ more) rest
 
 -- the bytes are the script of these lines
 abbrev pub IsScript : ℕ → List ℕ → List ScriptLine → Type 0
-IsScript clients bytes lines = AreLines clients (pieces_of bytes) lines × (length lines ≤ most_lines)
+IsScript clients bytes lines = AreScriptLines clients (pieces_of bytes) lines × (length lines ≤ most_lines)
 
 -- ---- what is asked of the fields of a line
 
@@ -86,11 +86,11 @@ IsLineAt pieces k = (suc k < length pieces) ⊎ (get_or pieces k [] ≢ [])
 -- the line of this index keeps the rule of this kind: a line feed ends it, or it is one of so many, or its fields keep it
 abbrev pub LineKeeps : ℕ → List (List ℕ) → ℕ → ScriptKind → Type 0
 LineKeeps clients pieces k kind.NoEnd = suc k < length pieces
-LineKeeps clients pieces k kind.Verb = FieldsKeep clients (fields_of (get_or pieces k [])) kind.Verb
-LineKeeps clients pieces k kind.Fields = FieldsKeep clients (fields_of (get_or pieces k [])) kind.Fields
-LineKeeps clients pieces k kind.Client = FieldsKeep clients (fields_of (get_or pieces k [])) kind.Client
-LineKeeps clients pieces k kind.Hex = FieldsKeep clients (fields_of (get_or pieces k [])) kind.Hex
-LineKeeps clients pieces k kind.Number = FieldsKeep clients (fields_of (get_or pieces k [])) kind.Number
+LineKeeps clients pieces k kind.Verb = FieldsKeep clients (line_fields (get_or pieces k [])) kind.Verb
+LineKeeps clients pieces k kind.Fields = FieldsKeep clients (line_fields (get_or pieces k [])) kind.Fields
+LineKeeps clients pieces k kind.Client = FieldsKeep clients (line_fields (get_or pieces k [])) kind.Client
+LineKeeps clients pieces k kind.Hex = FieldsKeep clients (line_fields (get_or pieces k [])) kind.Hex
+LineKeeps clients pieces k kind.Number = FieldsKeep clients (line_fields (get_or pieces k [])) kind.Number
 LineKeeps clients pieces k kind.TooMany = k < most_lines
 
 abbrev pub IsGoodLine : ℕ → List (List ℕ) → ℕ → Type 0
@@ -102,7 +102,7 @@ pub record BreaksFirst (clients : ℕ) (pieces : List (List ℕ)) (k : ℕ) (kin
   pub keeps_before : (other : ScriptKind) → kind_number other < kind_number kind → LineKeeps clients pieces k other
 
 -- of the lines, this one (counted from 1) is the first bad one, and this is the first rule that it breaks
-pub record IsFirstBadLine (clients : ℕ) (bytes : List ℕ) (r : ScriptRefusal) : Type 0 where
+pub record IsFirstBadScriptLine (clients : ℕ) (bytes : List ℕ) (r : ScriptRefusal) : Type 0 where
   pub index : ℕ
   pub counted : r.line ≡ suc index
   pub first : IsFirstFailing (IsLineAt (pieces_of bytes)) (IsGoodLine clients (pieces_of bytes)) index

@@ -1,6 +1,6 @@
 ghost use Rattle.std.specs.Prelude.{ℕ, ◌≡◌, ◌≤◌, ◌^◌, List};
 ghost use Rattle.desk_script.specs.Lines.{ScriptLine};
-ghost use Rattle.desk_script.specs.Scripts.{IsFirstBadLine, IsScript};
+ghost use Rattle.desk_script.specs.Scripts.{IsFirstBadScriptLine, IsScript};
 
 use crate::kinds::ScriptRefusal;
 
@@ -11,10 +11,10 @@ pub fn one_script()
 
 /// A script has no bad line: so bytes are taken exactly where they are a script, and refused exactly where a line is bad.
 pub fn script_is_not_refused()
-    ensures { (clients : ℕ) (bytes : List ℕ) (lines : List ScriptLine) (r : ScriptRefusal) → clients ≤ 2 ^ 32 → IsScript clients bytes lines → ¬ IsFirstBadLine clients bytes r }
+    ensures { (clients : ℕ) (bytes : List ℕ) (lines : List ScriptLine) (r : ScriptRefusal) → clients ≤ 2 ^ 32 → IsScript clients bytes lines → ¬ IsFirstBadScriptLine clients bytes r }
 {}
 
 /// Bytes have one first bad line at most, and it breaks one rule first.
 pub fn one_script_refusal()
-    ensures { (clients : ℕ) (bytes : List ℕ) (a b : ScriptRefusal) → IsFirstBadLine clients bytes a → IsFirstBadLine clients bytes b → a ≡ b }
+    ensures { (clients : ℕ) (bytes : List ℕ) (a b : ScriptRefusal) → IsFirstBadScriptLine clients bytes a → IsFirstBadScriptLine clients bytes b → a ≡ b }
 {}

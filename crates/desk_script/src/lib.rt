@@ -1,6 +1,8 @@
-//! The script of a desk's clients: what its lines are, and why it is refused (docs/SERVICE.md).
+//! The script of a desk's clients, and the transcript of what happened at the desk (docs/SERVICE.md).
 #![tactic(auto)]
 
+mod batches;
+mod entries;
 mod fields;
 mod kinds;
 mod laws;
@@ -9,9 +11,11 @@ mod line;
 mod lines;
 mod numbers;
 mod script;
+mod transcripts;
 mod verb;
 
 pub use kinds::{ScriptKind, ScriptRefusal};
 pub use laws::{one_script, one_script_refusal, script_is_not_refused};
 pub use line::{Line, Script};
 pub use script::read_script;
+pub use transcripts::transcript;

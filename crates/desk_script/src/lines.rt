@@ -1,6 +1,6 @@
 ghost use Rattle.std.specs.Prelude.{◌≡◌, map, option_map};
 ghost use Rattle.cairo_model.specs.Working.Answers.{Gives};
-ghost use Rattle.desk_script.specs.Lines.{fields_of};
+ghost use Rattle.desk_script.specs.Lines.{line_fields};
 ghost use Rattle.desk_script.specs.Views.{line_view};
 ghost use Rattle.desk_script.specs.Working.Reading.{bytes_in, hash_in, numbers_in, parts_left, read_ask, read_line, read_settle, read_status, read_submit};
 
@@ -18,7 +18,7 @@ use std::alloc::Global;
 
 /// The line of this text, which has no line feed, or what is wrong with it first.
 pub(crate) fn line_in(alloc: Global, text: &[u8], clients: u32) -> Result<Line, End<ScriptKind>>
-    ensures { Gives line_view result (read_line clients (fields_of text.now)) }
+    ensures { Gives line_view result (read_line clients (line_fields text.now)) }
 {
     let (verb, fields) = cut(text, SPACE);
     match verb_of(verb) {

@@ -1,6 +1,6 @@
 ghost use Rattle.std.specs.Prelude.{◌≡◌, ◌≤◌, ◌+◌, IfOk, Err, map};
 ghost use Rattle.desk_script.specs.Limits.{most_lines};
-ghost use Rattle.desk_script.specs.Scripts.{IsFirstBadLine, IsScript};
+ghost use Rattle.desk_script.specs.Scripts.{IsFirstBadScriptLine, IsScript};
 ghost use Rattle.desk_script.specs.Views.{line_view};
 
 use crate::fields::{LINE_FEED, cut};
@@ -16,7 +16,7 @@ pub fn read_script(alloc: Global, bytes: &[u8], clients: u32) -> Result<Script, 
     // What is taken is the script of these lines.
     ensures script { IfOk result (λ script. IsScript clients bytes.now (map line_view script.lines.items)) }
     // What is refused is so for its first bad line, and of what is wrong with it the first.
-    ensures refused { (r : ScriptRefusal) → result ≡ Err (End.Refused r) → IsFirstBadLine clients bytes.now r }
+    ensures refused { (r : ScriptRefusal) → result ≡ Err (End.Refused r) → IsFirstBadScriptLine clients bytes.now r }
 {
     let mut lines = Vec::new(alloc);
     let mut left = bytes;

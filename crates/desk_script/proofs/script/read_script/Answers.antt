@@ -7,7 +7,7 @@ use Rattle.desk_script.proofs.ReadLines.{Told, told}
 use Rattle.desk_script.proofs.Refusing.{fields_found, made_so, no_end_found, refusal_is, too_many_found}
 use Rattle.desk_script.proofs.Walks.{Walked, nothing, walk_begins, walk_ends, walk_on}
 use Rattle.desk_script.proofs.script.read_script.Goals as goal
-use Rattle.desk_script.specs.Lines.{ScriptLine, fields_of}
+use Rattle.desk_script.specs.Lines.{ScriptLine, line_fields}
 use Rattle.desk_script.specs.Scripts.{pieces_of}
 use Rattle.desk_script.specs.Views.{line_view}
 use Rattle.desk_script.specs.Working.Reading.{parts_left, read_line}
@@ -36,11 +36,11 @@ returns-in-Err-Refused-clause-refused c =
     let count : c.len-in-Err-Refused.result ≡ length c.loop-left.lines.items = search rules in
     let before : c.len-in-Err-Refused.result ≡ length (map line_view c.loop-left.lines.items) = count ∙ sym (length-map c.loop-left.lines.items line_view) in
     let few : c.args.clients ≤ 2 ^ 64 = search rules in
-    let read : read_line c.args.clients (fields_of c.cut.result.0.now) ≡ Err c.in-Err-Refused.kind = search rules in
+    let read : read_line c.args.clients (line_fields c.cut.result.0.now) ≡ Err c.in-Err-Refused.kind = search rules in
     let made : c.refused-in-Err-Refused.result ≡ Refused (record { line = c.len-in-Err-Refused.result + 1; kind = c.in-Err-Refused.kind }) = search rules in
     fields_found c.args.clients c.args.bytes.now (map line_view c.loop-left.lines.items) c.loop-left.left.now c.cut.result.0.now c.in-Some.after.now c.in-Err-Refused.kind r c.loop-left.invariant
     (c.cut.ensures ∙ ap (λ (left : Option (Bor (List ℕ))). c.cut.result.0.now ∷ parts_left 10 left) c.in-Some.is)
-    (subst (Told c.args.clients (fields_of c.cut.result.0.now)) read (told c.args.clients few (fields_of c.cut.result.0.now)))
+    (subst (Told c.args.clients (line_fields c.cut.result.0.now)) read (told c.args.clients few (line_fields c.cut.result.0.now)))
     (refusal_is c.refused-in-Err-Refused.result r _ same made ∙ made_so c.len-in-Err-Refused.result (length (map line_view c.loop-left.lines.items)) c.in-Err-Refused.kind before)
 
 pub returns-then-len-ge-MOST_LINES-clause-refused : goal.returns-then-len-ge-MOST_LINES-clause-refused
@@ -50,10 +50,10 @@ returns-then-len-ge-MOST_LINES-clause-refused c =
     let before : c.len-then-len-ge-MOST_LINES.result ≡ length (map line_view c.loop-left.lines.items) = count ∙ sym (length-map c.loop-left.lines.items line_view) in
     let few : c.args.clients ≤ 2 ^ 64 = search rules in
     let full : most_lines ≤ length c.loop-left.lines.items = search rules in
-    let read : read_line c.args.clients (fields_of c.cut.result.0.now) ≡ Ok (line_view c.in-Ok.line) = search rules in
+    let read : read_line c.args.clients (line_fields c.cut.result.0.now) ≡ Ok (line_view c.in-Ok.line) = search rules in
     too_many_found c.args.clients c.args.bytes.now (map line_view c.loop-left.lines.items) c.loop-left.left.now c.cut.result.0.now c.in-Some.after.now r c.loop-left.invariant
     (c.cut.ensures ∙ ap (λ (left : Option (Bor (List ℕ))). c.cut.result.0.now ∷ parts_left 10 left) c.in-Some.is)
-    (subst (Told c.args.clients (fields_of c.cut.result.0.now)) read (told c.args.clients few (fields_of c.cut.result.0.now))).1
+    (subst (Told c.args.clients (line_fields c.cut.result.0.now)) read (told c.args.clients few (line_fields c.cut.result.0.now))).1
     (omega (arith, full, length-map c.loop-left.lines.items line_view))
     (refusal_is c.refused-then-len-ge-MOST_LINES.result r _ same c.refused-then-len-ge-MOST_LINES.ensures ∙ made_so c.len-then-len-ge-MOST_LINES.result (length (map line_view c.loop-left.lines.items)) kind.TooMany before)
 
@@ -61,9 +61,9 @@ pub loop-left-preserved : goal.loop-left-preserved
 loop-left-preserved c =
     let few : c.args.clients ≤ 2 ^ 64 = search rules in
     let room : length c.loop-left.lines.items < most_lines = search rules in
-    let read : read_line c.args.clients (fields_of c.cut.result.0.now) ≡ Ok (line_view c.in-Ok.line) = search rules in
+    let read : read_line c.args.clients (line_fields c.cut.result.0.now) ≡ Ok (line_view c.in-Ok.line) = search rules in
     let pushed : c.push.new.self.items ≡ c.loop-left.lines.items ++ c.in-Ok.line ∷ [] = search rules in
-    let both = subst (Told c.args.clients (fields_of c.cut.result.0.now)) read (told c.args.clients few (fields_of c.cut.result.0.now)) in
+    let both = subst (Told c.args.clients (line_fields c.cut.result.0.now)) read (told c.args.clients few (line_fields c.cut.result.0.now)) in
     let lines : map line_view c.push.new.self.items ≡ map line_view c.loop-left.lines.items ++ line_view c.in-Ok.line ∷ [] = ap (map line_view) pushed ∙ map-append line_view c.loop-left.lines.items (c.in-Ok.line ∷ []) in
     subst (λ (ls : List ScriptLine). Walked c.args.clients c.args.bytes.now ls c.in-Some.after.now) (sym lines)
     (walk_on c.args.clients c.args.bytes.now (map line_view c.loop-left.lines.items) c.loop-left.left.now c.cut.result.0.now c.in-Some.after.now (line_view c.in-Ok.line) c.loop-left.invariant
