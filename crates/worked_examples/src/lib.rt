@@ -38,6 +38,7 @@ mod registry;
 mod replays;
 #[cfg(test)]
 mod runs;
+mod scripts;
 #[cfg(test)]
 mod steps;
 #[cfg(test)]
