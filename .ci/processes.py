@@ -27,7 +27,7 @@ BATCH = (
     b"3852709440 3500719293 5\n"
 )
 ADMITTED = b"admitted program 644b2c86fee53a4ad40c21efa0e8524e34c75966cf12fcbfe5a3ae40d0a8bcbd outputs 5\n"
-USAGE = b"shared_prover: usage: shared_prover replay | place | list | check | boot\n"
+USAGE = b"shared_prover: usage: shared_prover replay | place | list | check | run | boot\n"
 UNREADABLE = b"shared_prover: the input could not be read\n"
 
 failures = []
@@ -71,6 +71,23 @@ def try_examples(five):
     expect("place of a refused file", run(["place"], input=example("addr.pie")), (1, b"refused 26 0 9\n", b""))
     expect("list of a refused file", run(["list"], input=example("addr.pie")), (1, b"refused 26 0 9\n", b""))
     expect("check of no certificate", run(["check"], input=five), (1, b"refused certificate 1\n", b""))
+
+
+def try_texts(five):
+    """`run` makes the PIE of a text, which `list` gives back, or names the line or the step that is wrong."""
+    expect("run of an example", run(["run"], input=example("five.casm")), (0, five, b""))
+    expect("run of a loop", run(["run"], input=example("down.casm")), (0, example("down_3.pie"), b""))
+    expect("run of its listing", run(["run"], input=example("down.listing")), (0, example("down_3.pie"), b""))
+    for name, text in {
+        "latin_1.casm": b"assembly 1 2", "no_label.casm": b"assembly 2 3",
+        "conflict.casm": b"execution 2 0 4:0 4", "forever.casm": b"execution 4 65536",
+    }.items():
+        expect(f"run of {name}", run(["run"], input=example(name)), (1, b"refused " + text + b"\n", b""))
+    for text, refusal in {
+        b"": b"execution 3 0 1", b"word -1 // \xe2\x82\n": b"assembly 1 1", b"\n[ap] = 1\n\xff": b"assembly 1 3",
+        b"[ap] = [ap+32768]\n": b"assembly 3 1", b"[ap] = [ap+1], ap++\n": b"execution 1 0",
+    }.items():
+        expect(f"run of {text}", run(["run"], input=text), (1, b"refused " + refusal + b"\n", b""))
 
 
 def boot_lines():
@@ -167,6 +184,7 @@ def main():
     five = example("five.pie")
     try_words(five)
     try_examples(five)
+    try_texts(five)
     try_boot()
     try_streams(five)
     try_launcher(five)

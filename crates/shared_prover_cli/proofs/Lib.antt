@@ -1,6 +1,8 @@
 mod CodeCells
 mod KeptBytes
 mod OneAnswer
+mod OneOutcome
+mod RunLemmas
 mod WordLemmas
 pub mod CheckLemmas
 pub mod TakenSoFar

@@ -1,5 +1,5 @@
 -- A command has one answer to an input, and none has the status of a script.
-use Rattle.std.proofs.Common.{◌≡◌, ◌≢◌, ℕ, ◌+◌, List, length, slice_index, sym, ap, subst, ◌∙◌, arith}
+use Rattle.std.proofs.Common.{◌≡◌, ◌≢◌, ℕ, ◌+◌, List, Ok, Err, length, slice_index, sym, ap, subst, ◌∙◌, arith}
 use Rattle.std.proofs.lemmas.List.{ext_get_or}
 use Rattle.cairo_model.specs.Pie.Acceptance.{CheckedRecord}
 use Rattle.cairo_model.specs.Certificate.Records.{CertRecord, SpanRecord}
@@ -22,6 +22,8 @@ use Rattle.shared_prover_cli.specs.Answers.List.{IsListedFor}
 use Rattle.shared_prover_cli.specs.Answers.Place.{IsPlaced}
 use Rattle.shared_prover_cli.specs.Answers.Check.{CheckAnswer, IsCheckOf, accepted, faulty, no_certificate}
 use Rattle.shared_prover_cli.specs.Answers.CheckTexts.{check_status, check_text}
+use Rattle.shared_prover_cli.specs.Answers.Run.{IsOutcomeOf, TextOutcome, no_code, ran}
+use Rattle.shared_prover_cli.specs.Answers.RunTexts.{outcome_status, outcome_text}
 use Rattle.shared_prover_cli.specs.Commands.{AnswerOf}
 use Rattle.shared_prover_cli.specs.Replies.{ReplyRecord}
 use Rattle.shared_prover_cli.specs.Texts.{verdict_status, verdict_text}
@@ -51,7 +53,10 @@ OneFault = (cert : CertRecord) (c d : FaultCause) → IsFirstRunFault cert c →
 abbrev pub OneListing : Type 0
 OneListing = (words : List ℕ) (ss others : List Statement) → Lists words ss → Lists words others → ss ≡ others
 
-module _ (one_verdict : OneVerdict) (one_placement : OnePlacement) (one_certificate : OneCertificate) (one_refusal : OneRefusal) (one_fault : OneFault) (one_listing : OneListing) where
+abbrev pub OneOutcome : Type 0
+OneOutcome = (bytes : List ℕ) (a b : TextOutcome) → IsOutcomeOf bytes a → IsOutcomeOf bytes b → a ≡ b
+
+module _ (one_verdict : OneVerdict) (one_placement : OnePlacement) (one_certificate : OneCertificate) (one_refusal : OneRefusal) (one_fault : OneFault) (one_listing : OneListing) (one_outcome : OneOutcome) where
   -- ---- check
 
   module _ (bytes : List ℕ) where
@@ -111,6 +116,9 @@ module _ (one_verdict : OneVerdict) (one_placement : OnePlacement) (one_certific
   one_answer commands.List input reply other p q =
       let same = one_verdict input p.verdict q.verdict p.is_verdict q.is_verdict in
       same_reply reply other (p.has_status ∙ ap verdict_status same ∙ sym q.has_status) (one_listed q.verdict reply.text other.text (subst (λ (v : Verdict). IsListedFor v reply.text) same p.has_text) q.has_text)
+  one_answer commands.Run input reply other p q =
+      let same = one_outcome input p.outcome q.outcome p.is_outcome q.is_outcome in
+      same_reply reply other (p.has_status ∙ ap outcome_status same ∙ sym q.has_status) (p.has_text ∙ ap outcome_text same ∙ sym q.has_text)
   one_answer commands.Boot input reply other p q = same_reply reply other (p.has_status ∙ sym q.has_status) (p.has_text ∙ sym q.has_text)
   one_answer commands.Check input reply other p q =
       let same = one_check input p.answer q.answer p.is_answer q.is_answer in
@@ -128,9 +136,15 @@ no_check (accepted kind steps outputs) = λ e. omega (arith, e)
 no_check (no_certificate refusal) = λ e. omega (arith, e)
 no_check (faulty fault) = λ e. omega (arith, e)
 
+no_outcome : (o : TextOutcome) → outcome_status o ≢ 3
+no_outcome (no_code refusal) = λ e. omega (arith, e)
+no_outcome (ran (Ok pie)) = λ e. omega (arith, e)
+no_outcome (ran (Err cause)) = λ e. omega (arith, e)
+
 pub no_script : (command : Command) (input : List ℕ) (reply : ReplyRecord) → AnswerOf command input reply → reply.status ≢ 3
 no_script commands.Replay input reply p = λ e. no_verdict p.verdict (sym p.has_status ∙ e)
 no_script commands.Place input reply p = λ e. no_verdict p.verdict (sym p.has_status ∙ e)
 no_script commands.List input reply p = λ e. no_verdict p.verdict (sym p.has_status ∙ e)
 no_script commands.Check input reply p = λ e. no_check p.answer (sym p.has_status ∙ e)
+no_script commands.Run input reply p = λ e. no_outcome p.outcome (sym p.has_status ∙ e)
 no_script commands.Boot input reply p = λ e. omega (arith, p.has_status, e)

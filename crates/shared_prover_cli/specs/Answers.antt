@@ -4,3 +4,5 @@ pub mod CheckTexts
 pub mod List
 pub mod Place
 pub mod Replay
+pub mod Run
+pub mod RunTexts

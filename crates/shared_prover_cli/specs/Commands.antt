@@ -6,6 +6,7 @@ use Rattle.shared_prover_cli.specs.Answers.CheckTexts.{CheckLine}
 use Rattle.shared_prover_cli.specs.Answers.List.{ListAnswer}
 use Rattle.shared_prover_cli.specs.Answers.Place.{PlaceAnswer}
 use Rattle.shared_prover_cli.specs.Answers.Replay.{ReplayAnswer}
+use Rattle.shared_prover_cli.specs.Answers.RunTexts.{RunAnswer}
 use Rattle.shared_prover_cli.specs.Replies.{ReplyRecord}
 use Rattle.shared_prover_cli.specs.declared.command.Command.{Command}
 use Rattle.shared_prover_cli.specs.declared.command.Command.TheVariants as commands
@@ -26,6 +27,7 @@ row_of commands.Replay = record { asked_by = IsWord (codes "replay"); reads = tr
 row_of commands.Place = record { asked_by = IsWord (codes "place"); reads = true; answers = PlaceAnswer }
 row_of commands.List = record { asked_by = IsWord (codes "list"); reads = true; answers = ListAnswer }
 row_of commands.Check = record { asked_by = IsWord (codes "check"); reads = true; answers = CheckLine }
+row_of commands.Run = record { asked_by = IsWord (codes "run"); reads = true; answers = RunAnswer }
 row_of commands.Boot = record { asked_by = IsWord (codes "boot"); reads = false; answers = λ input. BootAnswer }
 
 -- ---- the table read aloud

@@ -1,5 +1,6 @@
 pub mod Checking
 pub mod Replies
 pub mod Replying
+pub mod Running
 pub mod Takings
 pub mod Writings

@@ -6,12 +6,14 @@ mod check;
 mod list;
 mod place;
 mod replay;
+mod run;
 
 use crate::answers::boot::boot_answer;
 use crate::answers::check::check_answer;
 use crate::answers::list::list_answer;
 use crate::answers::place::place_answer;
 use crate::answers::replay::replay_answer;
+use crate::answers::run::run_answer;
 use crate::command::Command;
 use crate::limits::INPUT_LIMIT;
 use crate::reply::Reply;
@@ -35,6 +37,7 @@ pub fn reply_to<R: Threads + Sync, S: Source>(
         Command::Place => place_reply(alloc, source),
         Command::List => list_reply(alloc, source),
         Command::Check => check_reply(rt, alloc, source),
+        Command::Run => run_reply(alloc, source),
         Command::Boot => Ok(boot_answer(alloc)?),
     }
 }
@@ -58,6 +61,13 @@ fn list_reply<S: Source>(alloc: Global, source: &mut S) -> Result<Reply, InputFa
 {
     let file = read_whole(alloc, source, INPUT_LIMIT)?;
     Ok(list_answer(alloc, file.as_slice())?)
+}
+
+fn run_reply<S: Source>(alloc: Global, source: &mut S) -> Result<Reply, InputFault>
+    ensures { ComesTo Command.Run (stream S.left S.faults source.old source.new) result }
+{
+    let text = read_whole(alloc, source, INPUT_LIMIT)?;
+    Ok(run_answer(alloc, text.as_slice())?)
 }
 
 // The certificate is read as its bytes come, and they aren't kept.

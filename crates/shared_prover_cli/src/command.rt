@@ -12,6 +12,8 @@ pub enum Command {
     List,
     /// Says whether a certificate is accepted.
     Check,
+    /// Runs an assembly text, and writes the PIE of the run.
+    Run,
     /// Writes the words of the bootloader.
     Boot,
 }
@@ -39,6 +41,8 @@ fn command_named(word: &str) -> Option<Command>
         Some(Command::List)
     } else if word == "check" {
         Some(Command::Check)
+    } else if word == "run" {
+        Some(Command::Run)
     } else if word == "boot" {
         Some(Command::Boot)
     } else {

@@ -3,11 +3,12 @@ ghost use Rattle.shared_prover_cli.specs.Commands.{AnswerOf};
 ghost use Rattle.shared_prover_cli.specs.Replies.{ReplyRecord};
 
 use crate::command::Command;
-use casm_text::one_listing;
+use casm_text::{assembles_without_cause, one_assembly, one_first_cause, one_listing};
 use cert_format::{one_certificate, one_first_cert_cause};
 use pie_replay::one_verdict;
 use relocator::one_lone_certificate;
 use row_checker::one_first_run_fault;
+use seg_runner::one_run_answer;
 
 /// A command has one answer to an input: one status, and one text.
 pub fn one_answer()
@@ -20,6 +21,10 @@ pub fn one_answer()
     one_first_cert_cause();
     one_first_run_fault();
     one_listing();
+    assembles_without_cause();
+    one_assembly();
+    one_first_cause();
+    one_run_answer();
 }
 
 /// No command answers that a script is refused, since none reads one.

@@ -28,6 +28,7 @@ mod reply;
 #[cfg(test)]
 mod roomy_tests;
 mod run;
+mod run_texts;
 mod status;
 mod stream;
 mod sure;

@@ -17,6 +17,9 @@ returns-in-List g c = subst (λ (command : Command). ComesTo command (stream g.S
 pub returns-in-Check : goal.returns-in-Check
 returns-in-Check g c = subst (λ (command : Command). ComesTo command (stream g.S.Source.left g.S.Source.faults c.args.source.now c.check_reply.new.source) c.check_reply.result) (sym c.in-Check.is) c.check_reply.ensures
 
+pub returns-in-Run : goal.returns-in-Run
+returns-in-Run g c = subst (λ (command : Command). ComesTo command (stream g.S.Source.left g.S.Source.faults c.args.source.now c.run_reply.new.source) c.run_reply.result) (sym c.in-Run.is) c.run_reply.ensures
+
 -- the source is left as it was
 pub returns-in_ok-boot_answer-in-Boot : goal.returns-in_ok-boot_answer-in-Boot
 returns-in_ok-boot_answer-in-Boot g c =
