@@ -1,7 +1,7 @@
 -- An input of `run` has one outcome.
 use Rattle.std.proofs.Common.{◌≡◌, ℕ, List, Result, inl, inr, sym, ap, subst, ◌∙◌, arith}
 use Rattle.std.proofs.lemmas.Str.{utf8_valid_len-IsUtf8, utf8_valid_len-IsValidUpTo}
-use Rattle.std.specs.Str.{IsUtf8, IsValidUpTo}
+use Rattle.std.specs.Str.{IsUtf8}
 use Rattle.cairo_model.specs.Limits.{most_steps}
 use Rattle.cairo_model.specs.Pie.Records.{PieRecord}
 use Rattle.casm_text.specs.Refusals.{Assembles, IsAsmCause, IsFirstAsmCause}

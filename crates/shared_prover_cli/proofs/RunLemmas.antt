@@ -1,11 +1,15 @@
--- What the code of a text has: its main entry stands no further than behind its words.
-use Rattle.std.proofs.Common.{◌≡◌, ℕ, ◌+◌, ◌<◌, ◌≤◌, Bool, true, false, if◌then◌else◌, List, [], ◌∷◌, length, Option, Some, None, IfOk, Result, Ok, Err, codes, ap, sym, subst, ◌∙◌, arith, refl}
+-- What the code of a text has, its main entry no further than behind its words; and that a PIE that is written is admitted.
+use Rattle.std.proofs.Common.{◌≡◌, ℕ, ◌+◌, ◌<◌, ◌≤◌, Bool, true, false, if◌then◌else◌, List, [], ◌∷◌, length, Option, Some, None, Ok, Err, codes, ap, sym, subst, ◌∙◌, arith}
 use Rattle.std.proofs.lemmas.List.{length-append}
 use Rattle.std.specs.Option.{unwrap_or}
 use Rattle.cairo_model.specs.Limits.{most_cells, offset_limit}
+use Rattle.cairo_model.specs.Pie.Acceptance.{CheckedRecord}
+use Rattle.cairo_model.specs.Refusals.Verdicts.{IsVerdict, admitted}
 use Rattle.casm_text.specs.Lines.{Line, empty_line, label_line, statement_line, is_label, label_at, label_offset, line_size, statement_size, GivesFrom}
 use Rattle.casm_text.specs.Refusals.{Assembles}
 use Rattle.casm_text.proofs.Relists.{gives_size}
+use Rattle.shared_prover_cli.specs.Answers.Run.{TextOutcome, IsOutcomeOf, no_code, ran}
+use Rattle.shared_prover_cli.specs.Answers.RunTexts.{IsFileOf, outcome_status}
 
 -- an offset, if there is one, is at most this
 abbrev pub AtMost : ℕ → Option ℕ → Type 0
@@ -37,3 +41,13 @@ main_small text words main h few =
     let within = labels_within (label_offset h.lines) 0 most_cells h.lines words (codes "main") h.code.0 (omega arith) in
     let small = small_offset (label_at 0 h.lines (codes "main")) within in
     omega (arith, h.code.1, small)
+
+-- ---- what is written
+
+pub admitted_outcome : (input text : List ℕ) (o : TextOutcome) → IsOutcomeOf input o → IsFileOf o text → outcome_status o ≡ 0
+    → (found : CheckedRecord) × IsVerdict text (admitted found)
+admitted_outcome input text (no_code refusal) p file done = absurd (omega (arith, done))
+admitted_outcome input text (ran (Err cause)) p file done = absurd (omega (arith, done))
+admitted_outcome input text (ran (Ok pie)) p file done =
+    let accepted = p.1.runs.accepted in
+    (record { pie = pie; fact = accepted.0; states = accepted.1.0 }, (file, accepted.1.1))

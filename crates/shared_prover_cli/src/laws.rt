@@ -1,4 +1,6 @@
 ghost use Rattle.std.specs.Prelude.{◌≡◌, ◌≢◌, ℕ, List};
+ghost use Rattle.cairo_model.specs.Pie.Acceptance.{CheckedRecord};
+ghost use Rattle.cairo_model.specs.Refusals.Verdicts.{IsVerdict, admitted};
 ghost use Rattle.shared_prover_cli.specs.Commands.{AnswerOf};
 ghost use Rattle.shared_prover_cli.specs.Replies.{ReplyRecord};
 
@@ -26,6 +28,12 @@ pub fn one_answer()
     one_first_cause();
     one_run_answer();
 }
+
+/// What `run` writes at status 0 is the file of a PIE that is accepted alone, so that `replay` admits it.
+pub fn run_is_admitted()
+    ensures { (input : List ℕ) (reply : ReplyRecord) → AnswerOf Command.Run input reply → reply.status ≡ 0
+        → (found : CheckedRecord) × IsVerdict reply.text (admitted found) }
+{}
 
 /// No command answers that a script is refused, since none reads one.
 pub fn no_script_refused()

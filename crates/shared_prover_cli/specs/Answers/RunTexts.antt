@@ -1,6 +1,7 @@
 -- What answers an assembly text: the file of its PIE, or the line of the refusal; and the reply of `run`.
 use Rattle.std.specs.Prelude.{◌≡◌, ℕ, List, [], ◌∷◌, ◌++◌, codes, Ok, Err}
 use Rattle.cairo_model.specs.Machine.StepFaults.{step_fault_number}
+use Rattle.cairo_model.specs.Pie.Files.{PieBytes}
 use Rattle.cairo_model.specs.Texts.Numbers.{numbers_text, value_text}
 use Rattle.cairo_model.specs.Texts.Refusals.{replay_text}
 use Rattle.casm_text.specs.Refusals.{asm_number}
@@ -37,9 +38,16 @@ outcome_status (no_code refusal) = 1
 outcome_status (ran (Err cause)) = 1
 outcome_status (ran (Ok pie)) = 0
 
+-- what is written of a PIE is a file of it
+abbrev pub IsFileOf : TextOutcome → List ℕ → Type 0
+IsFileOf (no_code refusal) text = Unit {0}
+IsFileOf (ran (Err cause)) text = Unit {0}
+IsFileOf (ran (Ok pie)) text = PieBytes text pie
+
 -- `run`: the file or the line of the one outcome of the text that the input is
 pub record RunAnswer (input : List ℕ) (reply : ReplyRecord) : Type 0 where
   pub outcome : TextOutcome
   pub is_outcome : IsOutcomeOf input outcome
   pub has_status : reply.status ≡ outcome_status outcome
   pub has_text : reply.text ≡ outcome_text outcome
+  pub is_file : IsFileOf outcome reply.text

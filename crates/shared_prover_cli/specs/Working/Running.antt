@@ -5,12 +5,14 @@ use Rattle.cairo_model.specs.Pie.Records.{PieRecord}
 use Rattle.seg_runner.specs.Answers.{IsRunAnswer}
 use Rattle.seg_runner.specs.Refusals.{RunCause}
 use Rattle.shared_prover_cli.specs.Answers.Run.{TextOutcome, ran}
-use Rattle.shared_prover_cli.specs.Answers.RunTexts.{outcome_status, outcome_text}
+use Rattle.shared_prover_cli.specs.Answers.RunTexts.{IsFileOf, outcome_status, outcome_text}
 use Rattle.shared_prover_cli.specs.Replies.{ReplyRecord}
 
 -- the status and the text of an outcome
-abbrev pub TellsOutcome : TextOutcome → ReplyRecord → Type 0
-TellsOutcome outcome reply = (reply.status ≡ outcome_status outcome) × (reply.text ≡ outcome_text outcome)
+pub record TellsOutcome (outcome : TextOutcome) (reply : ReplyRecord) : Type 0 where
+  pub has_status : reply.status ≡ outcome_status outcome
+  pub has_text : reply.text ≡ outcome_text outcome
+  pub is_file : IsFileOf outcome reply.text
 
 -- what this code runs to
 pub record CodeReply (words : List ℕ) (main : ℕ) (reply : ReplyRecord) : Type 0 where

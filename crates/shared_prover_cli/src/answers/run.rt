@@ -1,5 +1,4 @@
-ghost use Rattle.std.specs.Prelude.{◌≡◌, ◌<◌, ◌≤◌, ◌^◌, IfOk, length};
-ghost use Rattle.std.specs.Str.{IsUtf8};
+ghost use Rattle.std.specs.Prelude.{◌≡◌, ◌<◌, ◌≤◌, IfOk, length};
 ghost use Rattle.cairo_model.specs.Limits.{most_cells, offset_limit};
 ghost use Rattle.shared_prover_cli.specs.Answers.Run.{line_of_byte as line_of_byte_in, no_code};
 ghost use Rattle.shared_prover_cli.specs.Answers.RunTexts.{RunAnswer};
@@ -46,8 +45,7 @@ fn line_of_byte(bytes: &[u8], index: usize) -> u32
 }
 
 fn text_answer(alloc: Global, text: &str) -> Result<Reply, AllocError>
-    requires short { length text.now ≤ input_limit }
-    requires is_text { IsUtf8 text.now }
+    requires { length text.now ≤ input_limit }
     ensures { IfOk result (λ reply. RunAnswer text.now (reply_view reply)) }
 {
     code_is_small();

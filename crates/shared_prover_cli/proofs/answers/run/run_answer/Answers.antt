@@ -16,6 +16,7 @@ returns-in-Err c =
     under_ok (λ reply. TellsOutcome (no_code (Syntax line)) (reply_view reply)) (λ reply. RunAnswer c.args.input.now (reply_view reply)) c.no_code_reply.result (λ reply kept. record {
       outcome = no_code (Syntax line);
       is_outcome = inr (line, ((index, (c.in-Err.ensures.cases.1, is_line)), refl));
-      has_status = kept.0;
-      has_text = kept.1;
+      has_status = kept.has_status;
+      has_text = kept.has_text;
+      is_file = kept.is_file;
     }) c.no_code_reply.ensures

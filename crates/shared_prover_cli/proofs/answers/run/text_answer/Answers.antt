@@ -19,9 +19,10 @@ returns-in-Ok c =
     let code = c.in-Ok.code in
     under_ok (λ reply. CodeReply code.words.items code.main (reply_view reply)) (λ reply. RunAnswer c.args.text.now (reply_view reply)) c.code_answer.result (λ reply kept. record {
       outcome = ran kept.outcome;
-      is_outcome = (c.requires.is_text, record { words = code.words.items; main = code.main; has_code = c.in-Ok.ensures.code; runs = kept.is_answer });
-      has_status = kept.tells.0;
-      has_text = kept.tells.1;
+      is_outcome = (c.utf8.text, record { words = code.words.items; main = code.main; has_code = c.in-Ok.ensures.code; runs = kept.is_answer });
+      has_status = kept.tells.has_status;
+      has_text = kept.tells.has_text;
+      is_file = kept.tells.is_file;
     }) c.code_answer.ensures
 
 -- the text has no code
@@ -30,7 +31,8 @@ returns-in-Err-Refused c =
     let refusal = c.in-Err-Refused.refusal in
     under_ok (λ reply. TellsOutcome (no_code refusal) (reply_view reply)) (λ reply. RunAnswer c.args.text.now (reply_view reply)) c.no_code_reply.result (λ reply kept. record {
       outcome = no_code refusal;
-      is_outcome = inl (c.requires.is_text, c.in-Err-Refused.ensures.refused refusal (cc));
-      has_status = kept.0;
-      has_text = kept.1;
+      is_outcome = inl (c.utf8.text, c.in-Err-Refused.ensures.refused refusal (cc));
+      has_status = kept.has_status;
+      has_text = kept.has_text;
+      is_file = kept.is_file;
     }) c.no_code_reply.ensures
