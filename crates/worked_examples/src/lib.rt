@@ -19,6 +19,8 @@ mod desk;
 #[cfg(test)]
 mod field;
 #[cfg(test)]
+mod generated;
+#[cfg(test)]
 mod hash;
 #[cfg(test)]
 mod listings;

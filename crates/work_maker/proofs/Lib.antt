@@ -1,0 +1,4 @@
+pub mod CellRows
+pub mod Countdowns
+pub mod DownRules
+pub mod Scripts

@@ -1,0 +1,32 @@
+//! The PIEs and scripts of the generator. The files are by a program that shares nothing with ours.
+
+use crate::runs::{DOWN_3, DOWN_14};
+use hex::decode;
+use pie_format::write;
+use std::test::Fail;
+use work_maker::{down, make_script};
+
+#[test]
+fn countdowns_of_3_and_14_rounds(rt: HostRuntime) -> Result<(), Fail> {
+    for (rounds, file) in [(3, DOWN_3), (14, DOWN_14)] {
+        let pie = down(rt.alloc(), rounds)?;
+        let bytes = write(rt.alloc(), &pie)?;
+        assert_eq!(rt; bytes.as_slice(), decode(rt.alloc(), file)?.as_slice());
+    }
+    Ok(())
+}
+
+#[test]
+fn a_script_of_one_job(rt: HostRuntime) -> Result<(), Fail> {
+    let script = make_script(rt.alloc(), 1)?;
+    let line = format!(in rt.alloc(); "submit 0 {DOWN_14}\n")?;
+    assert_eq!(rt; script.as_slice(), line.as_bytes());
+    Ok(())
+}
+
+#[test]
+fn a_question_after_eight_jobs(rt: HostRuntime) -> Result<(), Fail> {
+    let script = make_script(rt.alloc(), 8)?;
+    assert!(rt; script.as_slice().ends_with(b"\nstatus 3 1\n"));
+    Ok(())
+}
