@@ -3,6 +3,7 @@
 ghost use Rattle.std.specs.Prelude.{◌≡◌, ◌++◌, ◌∷◌, [], ◌≤◌, IfOk, OnOk, length, map};
 ghost use Rattle.cairo_model.specs.Limits.{most_cells};
 ghost use Rattle.cairo_model.specs.Machine.Values.{number as numeral, place as location};
+ghost use Rattle.cairo_model.specs.Pie.Records.{KeepsRules};
 ghost use Rattle.cairo_model.specs.Views.Machine.{datum};
 ghost use Rattle.work_maker.specs.Down.{round_values, countdown, down_code, down_pie, down_stack, down_stops, frame_starts};
 ghost use Rattle.work_maker.specs.Limits.{most_rounds};
@@ -40,6 +41,16 @@ const AFTER_ROUNDS: [u64; 12] = [
 
 /// The PIE of DOWN with so many rounds: it is built cell by cell, and runs nothing.
 pub fn down(alloc: Global, rounds: u32) -> Result<Pie, AllocError>
+    requires { rounds ≤ most_rounds }
+    ensures pie { IfOk result (λ pie. pie ≡ down_pie rounds) }
+    // It has a file.
+    ensures rules { IfOk result (λ pie. KeepsRules pie) }
+{
+    let pie = built(alloc, rounds)?;
+    Ok(pie)
+}
+
+fn built(alloc: Global, rounds: u32) -> Result<Pie, AllocError>
     requires { rounds ≤ most_rounds }
     ensures { IfOk result (λ pie. pie ≡ down_pie rounds) }
 {

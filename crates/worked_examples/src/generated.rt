@@ -8,11 +8,18 @@ use work_maker::{down, make_script};
 
 #[test]
 fn countdowns_of_3_and_14_rounds(rt: HostRuntime) -> Result<(), Fail> {
-    for (rounds, file) in [(3, DOWN_3), (14, DOWN_14)] {
-        let pie = down(rt.alloc(), rounds)?;
-        let bytes = write(rt.alloc(), &pie)?;
-        assert_eq!(rt; bytes.as_slice(), decode(rt.alloc(), file)?.as_slice());
-    }
+    let three = down(rt.alloc(), 3)?;
+    let bytes_of_three = write(rt.alloc(), &three)?;
+    assert_eq!(rt;
+        bytes_of_three.as_slice(),
+        decode(rt.alloc(), DOWN_3)?.as_slice()
+    );
+    let fourteen = down(rt.alloc(), 14)?;
+    let bytes_of_fourteen = write(rt.alloc(), &fourteen)?;
+    assert_eq!(rt;
+        bytes_of_fourteen.as_slice(),
+        decode(rt.alloc(), DOWN_14)?.as_slice()
+    );
     Ok(())
 }
 

@@ -1,7 +1,0 @@
-use Rattle.std.proofs.Common.{sym, subst}
-use Rattle.cairo_model.specs.Pie.Records.{KeepsRules}
-use Rattle.work_maker.proofs.DownRules.{down_rules}
-use Rattle.work_maker.proofs.generator.put_down.Goals as goal
-
-pub write-requires : goal.write-requires
-write-requires c = subst KeepsRules (sym c.in_ok-pie.ensures) (down_rules c.args.rounds c.requires)
