@@ -1,0 +1,11 @@
+pub mod Endings
+pub mod Phases
+pub mod Events
+pub mod Measures
+pub mod Registering
+pub mod Taking
+pub mod SealRounds
+pub mod TakeRounds
+pub mod Returning
+pub mod Handing
+pub mod RoundEnds
