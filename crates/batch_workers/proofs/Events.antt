@@ -1,15 +1,12 @@
 -- Each event of a worker is one entry of its kinds.
-use Rattle.std.proofs.Common.{◌≡◌, ◌≢◌, ℕ, ◌==◌, Bool, true, false, cond, ◌⊎◌, inl, inr, List, [], ◌∷◌, ◌++◌, length, map, refl, sym, ap, ◌∙◌, subst}
-use Rattle.std.specs.Prelude.{All, Option, Some, None}
+use Rattle.std.proofs.Common.{◌≡◌, ℕ, ◌==◌, Bool, true, false, cond, List, [], ◌∷◌, ◌++◌, length, refl, sym, ap, ◌∙◌, subst}
+use Rattle.std.specs.Prelude.{Option, Some, None}
 use Rattle.std.proofs.lemmas.List.Elements.{All-cons, All-nil}
-use Rattle.cairo_model.specs.Pie.Records.{PieRecord}
-use Rattle.desk_core.specs.DeskRecords.{DeskRecord, journal_of, plain_of}
-use Rattle.desk_core.specs.Desks.{PlainBatch, PlainDesk, PlainJob, first_sealed, is_taken_by, phase_at, set_phase, waiting_jobs}
+use Rattle.desk_core.specs.DeskRecords.{DeskRecord, plain_of}
+use Rattle.desk_core.specs.Desks.{PlainDesk, first_sealed, is_taken_by, phase_at, set_phase, waiting_jobs}
 use Rattle.desk_core.specs.Journals.{no_pie}
-use Rattle.desk_core.specs.Next.{after_event, after_give_back, after_register, after_seal, after_take, next_batch, reply_to}
-use Rattle.desk_core.specs.Quotas.{is_admitted}
+use Rattle.desk_core.specs.Next.{after_event, after_give_back, after_register, after_take, next_batch}
 use Rattle.desk_core.specs.Turns.{IsTurn, entry_of}
-use Rattle.desk_core.specs.declared.entry.FullEntry.{FullEntry}
 use Rattle.desk_core.specs.declared.event.Event.{Event}
 use Rattle.desk_core.specs.declared.event.Event.TheVariants as event
 use Rattle.desk_core.specs.declared.phase.Phase.{Phase}

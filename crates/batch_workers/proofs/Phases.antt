@@ -1,5 +1,5 @@
 -- Where batches stand after a worker's events.
-use Rattle.std.proofs.Common.{◌≡◌, ◌≢◌, ℕ, zero, suc, ◌⊎◌, inl, inr, List, [], ◌∷◌, ◌++◌, refl, sym, ap, ◌∙◌, subst}
+use Rattle.std.proofs.Common.{◌≡◌, ◌≢◌, ℕ, zero, suc, ◌⊎◌, inl, inr, List, [], ◌∷◌, ◌++◌, sym}
 use Rattle.desk_core.specs.Desks.{PlainBatch, PlainDesk, phase_at, set_phase}
 use Rattle.desk_core.specs.declared.phase.Phase.{Phase}
 use Rattle.desk_core.specs.declared.phase.Phase.TheVariants as phase

@@ -1,12 +1,12 @@
 -- Where no batch is sealed or taken and no job waits, each job is in a registered batch.
-use Rattle.std.proofs.Common.{◌≡◌, ◌≢◌, ℕ, zero, suc, ◌+◌, ◌≤◌, ◌<◌, Bool, true, false, cond, not, ◌&&◌, List, [], ◌∷◌, ◌++◌, length, drop, refl, sym, ap, ◌∙◌, subst, arith}
-use Rattle.std.specs.Prelude.{All, Option, Some, None, find, nat_le, nat_lt, position, sum_by}
+use Rattle.std.proofs.Common.{◌≡◌, ◌≢◌, ℕ, zero, suc, ◌+◌, ◌≤◌, ◌<◌, Bool, true, false, cond, not, ◌&&◌, List, [], ◌∷◌, length, refl, ap, ◌∙◌, arith}
+use Rattle.std.specs.Prelude.{All, Some, None, find, nat_le, nat_lt, position, sum_by}
 use Rattle.std.specs.List.{prefix_len}
 use Rattle.std.specs.Option.{option_map_or}
 use Rattle.std.proofs.lemmas.Bool.{le-leb, ltb-false}
 use Rattle.std.proofs.lemmas.List.{length-drop}
 use Rattle.std.proofs.lemmas.List.Elements.{All-head, All-tail}
-use Rattle.desk_core.specs.Desks.{PlainBatch, PlainDesk, PlainJob, batched, first_sealed, has_job, is_sealed, phase_of_job, told_of, waiting_jobs}
+use Rattle.desk_core.specs.Desks.{PlainBatch, PlainDesk, PlainJob, batched, first_sealed, has_job, is_sealed, told_of, waiting_jobs}
 use Rattle.desk_core.specs.SoundDesks.{AreNeighbours, IsBatchOf, IsSound}
 use Rattle.desk_core.specs.declared.phase.JobPhase.{JobPhase}
 use Rattle.desk_core.specs.declared.phase.JobPhase.TheVariants as at

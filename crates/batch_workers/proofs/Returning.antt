@@ -1,17 +1,15 @@
 -- A batch in hand is given back, at once or after some tries.
-use Rattle.std.proofs.Common.{◌≡◌, ◌≢◌, ℕ, ◌+◌, ◌≤◌, ◌<◌, ◌==◌, Bool, true, false, cond, List, [], ◌∷◌, ◌++◌, length, map, refl, sym, ap, ◌∙◌, subst, arith}
+use Rattle.std.proofs.Common.{◌≡◌, ◌≢◌, ℕ, Bool, true, false, cond, List, [], map, refl, sym, ap, ◌∙◌, subst}
 use Rattle.std.proofs.lemmas.Bool.{eq-eqb}
 use Rattle.std.proofs.lemmas.List.{append-nil}
 use Rattle.std.proofs.lemmas.List.Elements.{All-nil}
 use Rattle.cairo_model.specs.Pie.Records.{PieRecord}
-use Rattle.desk_core.specs.DeskRecords.{DeskRecord, journal_of, plain_of, tasks_at}
-use Rattle.desk_core.specs.Desks.{PlainBatch, PlainDesk, PlainJob, first_sealed, is_sealed, is_taken_by, jobs_in, phase_at, set_phase, waiting_jobs}
-use Rattle.desk_core.specs.GoodDesks.{IsGoodDesk}
+use Rattle.desk_core.specs.DeskRecords.{DeskRecord, journal_of, plain_of}
+use Rattle.desk_core.specs.Desks.{PlainDesk, PlainJob, is_taken_by, phase_at}
 use Rattle.desk_core.specs.Journals.{no_pie}
-use Rattle.desk_core.specs.Next.{after_event, after_give_back, after_register, after_take, next_batch, parcel_reply, reply_to, take_reply}
-use Rattle.desk_core.specs.Turns.{IsTurn, entry_of, handed_out, turned}
+use Rattle.desk_core.specs.Next.{after_event, after_give_back, reply_to}
+use Rattle.desk_core.specs.Turns.{IsTurn, entry_of, turned}
 use Rattle.desk_core.specs.declared.event.Event.TheVariants as event
-use Rattle.desk_core.specs.declared.phase.Phase.{Phase}
 use Rattle.desk_core.specs.declared.phase.Phase.TheVariants as phase
 use Rattle.desk_core.specs.declared.reply.Reply.{Reply}
 use Rattle.desk_core.specs.declared.reply.Reply.TheVariants as reply
@@ -26,18 +24,6 @@ use Rattle.batch_workers.proofs.Taking.{idle_again, pies_stay}
 
 pub turned_only : (pass : ℕ) (d : DeskRecord) → Works pass EndBusy d (turned d)
 turned_only pass d = record {
-  more = [];
-  journal = sym (append-nil (journal_of d));
-  works = All-nil (IsWorkOf pass);
-  ends = refl;
-  jobs = refl;
-  clients = refl;
-  closed = refl;
-  alone = λ h. h;
-}
-
-pub nothing_yet : (pass : ℕ) (d : DeskRecord) → Works pass EndBusy d d
-nothing_yet pass d = record {
   more = [];
   journal = sym (append-nil (journal_of d));
   works = All-nil (IsWorkOf pass);

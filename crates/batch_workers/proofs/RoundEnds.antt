@@ -1,5 +1,5 @@
 -- How the parts of a round make the round, and rounds the work.
-use Rattle.std.proofs.Common.{◌≡◌, ℕ, ◌<◌, Bool, true, false, List, [], ◌∷◌, refl, sym, subst}
+use Rattle.std.proofs.Common.{◌≡◌, ℕ, ◌<◌, Bool, true, false, List, refl, sym, subst}
 use Rattle.cairo_model.specs.Certificate.Records.{CertRecord}
 use Rattle.boot_program.specs.Batch.Parcels.{ParcelRecord}
 use Rattle.cairo_model.specs.declared.end.End.{End}
@@ -19,7 +19,7 @@ use Rattle.batch_workers.specs.declared.round.Round.{Round}
 use Rattle.batch_workers.specs.declared.round.Round.TheVariants as round
 use Rattle.batch_workers.specs.declared.work_end.WorkEnd.{WorkEnd}
 use Rattle.batch_workers.specs.declared.work_end.WorkEnd.TheVariants as work
-use Rattle.batch_workers.specs.Works.{EndBusy, IsFaulty, IsIdle, IsNotRejected, IsRejected, WorkDone, Works, WorksAlone, pies_at, pies_of_tasks}
+use Rattle.batch_workers.specs.Works.{EndBusy, IsFaulty, IsNotRejected, IsRejected, WorkDone, Works, WorksAlone, pies_at, pies_of_tasks}
 use Rattle.batch_workers.specs.Working.Rounds.{BatchDone, HandedBack, Holds, NotCertified, RegisterDone, RoundDone, SealDone, rejecting_round, remaining}
 use Rattle.batch_workers.proofs.Returning.{back_works, wanted}
 use Rattle.batch_workers.proofs.Endings.{busy_from, busy_then, idle_from, idle_then, two_then}
@@ -71,13 +71,6 @@ module _ (pass : ℕ) (H : Type 0) (G : ParcelRecord → CertRecord → Type 0) 
   uncertified n o x f = by_end n o (x (pies_of_tasks v.tasks) holds_seen) (λ fault is. subst (λ (m : ParcelRecord). IsFaulty H G m fault) (sym same) (f fault is))
 
 -- ---- rounds
-
-pub batch_done : (pass : ℕ) (H : Type 0) (G : ParcelRecord → CertRecord → Type 0) (a b : DeskRecord) (o : Round) → RegisterDone pass a b o → BatchDone pass H G a b o
-batch_done pass H G a b round.Went x = x
-batch_done pass H G a b round.Idle x = x
-batch_done pass H G a b (round.Ended work.Drained) x = x
-batch_done pass H G a b (round.Ended work.OutOfMemory) x = x
-batch_done pass H G a b (round.Ended (work.Rejected n fault)) x = absurd x
 
 pub by_batch : (pass : ℕ) (H : Type 0) (G : ParcelRecord → CertRecord → Type 0) (a b c : DeskRecord) (parcel : ParcelRecord) (o : Round) → TookBatch pass a b parcel → BatchDone pass H G b c o → RoundDone pass H G a c o
 by_batch pass H G a b c parcel round.Went t x = (busy_then pass a b c t.works x.0, (x.1.0, subst (λ (n : ℕ). n < remaining (plain_of a)) (sym x.1.1) t.less))

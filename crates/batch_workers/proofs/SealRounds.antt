@@ -1,15 +1,14 @@
 -- The round in which a worker seals.
-use Rattle.std.proofs.Common.{◌≡◌, ◌≢◌, ℕ, ◌+◌, ◌≤◌, ◌<◌, ◌==◌, Bool, true, false, cond, List, [], ◌∷◌, ◌++◌, length, map, refl, sym, ap, ◌∙◌, subst, arith}
+use Rattle.std.proofs.Common.{◌≡◌, ℕ, ◌+◌, ◌<◌, ◌==◌, Bool, true, false, cond, [], ◌∷◌, ◌++◌, length, refl, sym, ap, subst, arith}
 use Rattle.std.specs.Prelude.{None, sum_by}
 use Rattle.std.proofs.lemmas.Bool.{eqb-true}
-use Rattle.desk_core.specs.DeskRecords.{DeskRecord, journal_of, plain_of, tasks_at}
-use Rattle.desk_core.specs.Desks.{PlainBatch, PlainDesk, PlainJob, first_sealed, is_sealed, is_taken_by, jobs_in, phase_at, set_phase, waiting_jobs}
+use Rattle.desk_core.specs.DeskRecords.{DeskRecord, plain_of}
+use Rattle.desk_core.specs.Desks.{PlainBatch, PlainDesk, first_sealed, waiting_jobs}
 use Rattle.desk_core.specs.GoodDesks.{IsGoodDesk}
 use Rattle.desk_core.specs.Journals.{no_pie}
-use Rattle.desk_core.specs.Next.{after_event, after_give_back, after_register, after_take, next_batch, parcel_reply, reply_to, take_reply}
-use Rattle.desk_core.specs.Turns.{IsTurn, entry_of, handed_out, turned}
+use Rattle.desk_core.specs.Next.{after_event, next_batch, reply_to}
+use Rattle.desk_core.specs.Turns.{IsTurn, entry_of}
 use Rattle.desk_core.specs.declared.event.Event.TheVariants as event
-use Rattle.desk_core.specs.declared.phase.Phase.{Phase}
 use Rattle.desk_core.specs.declared.phase.Phase.TheVariants as phase
 use Rattle.desk_core.specs.declared.reply.Reply.{Reply}
 use Rattle.desk_core.specs.declared.reply.Reply.TheVariants as reply
@@ -18,8 +17,6 @@ use Rattle.desk_core.proofs.SoundLemmas.{some_waiting, sound_sealed}
 use Rattle.desk_core.proofs.Turns.{all_small}
 use Rattle.batch_workers.specs.declared.round.Round.{Round}
 use Rattle.batch_workers.specs.declared.round.Round.TheVariants as round
-use Rattle.batch_workers.specs.declared.work_end.WorkEnd.{WorkEnd}
-use Rattle.batch_workers.specs.declared.work_end.WorkEnd.TheVariants as work
 use Rattle.batch_workers.specs.Works.{AllRegistered, IsIdle, Works, is_nothing}
 use Rattle.batch_workers.specs.Working.Rounds.{Are, SealDone, remaining, sealing_round}
 use Rattle.batch_workers.proofs.Endings.{busy_from}

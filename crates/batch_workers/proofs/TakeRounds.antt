@@ -1,21 +1,18 @@
 -- What taking comes to: a batch is in hand, or none is sealed.
-use Rattle.std.proofs.Common.{◌≡◌, ◌≢◌, ℕ, ◌+◌, ◌≤◌, ◌<◌, ◌==◌, Bool, true, false, cond, List, [], ◌∷◌, ◌++◌, length, map, refl, sym, ap, ◌∙◌, subst, arith}
+use Rattle.std.proofs.Common.{◌≡◌, ℕ, ◌<◌, [], ◌∷◌, refl, sym, ap, ◌∙◌, subst}
 use Rattle.std.specs.Prelude.{Option, Some, None, unwrap_or}
-use Rattle.cairo_model.specs.Pie.Records.{PieRecord}
 use Rattle.boot_program.specs.Batch.Parcels.{ParcelRecord}
-use Rattle.desk_core.specs.DeskRecords.{DeskRecord, journal_of, plain_of, tasks_at}
-use Rattle.desk_core.specs.Desks.{PlainBatch, PlainDesk, PlainJob, first_sealed, is_sealed, is_taken_by, jobs_in, phase_at, set_phase, waiting_jobs}
-use Rattle.desk_core.specs.GoodDesks.{IsGoodDesk}
+use Rattle.desk_core.specs.DeskRecords.{DeskRecord, plain_of, tasks_at}
+use Rattle.desk_core.specs.Desks.{PlainDesk, first_sealed, set_phase}
 use Rattle.desk_core.specs.Journals.{no_pie}
-use Rattle.desk_core.specs.Next.{after_event, after_give_back, after_register, after_take, next_batch, parcel_reply, reply_to, take_reply}
-use Rattle.desk_core.specs.Turns.{IsTurn, entry_of, handed_out, turned}
+use Rattle.desk_core.specs.Next.{after_event, after_take, reply_to, take_reply}
+use Rattle.desk_core.specs.Turns.{IsTurn, entry_of, handed_out}
 use Rattle.desk_core.specs.declared.event.Event.TheVariants as event
-use Rattle.desk_core.specs.declared.phase.Phase.{Phase}
 use Rattle.desk_core.specs.declared.phase.Phase.TheVariants as phase
 use Rattle.desk_core.specs.declared.reply.Reply.{Reply}
 use Rattle.desk_core.specs.declared.reply.Reply.TheVariants as reply
 use Rattle.desk_core.proofs.SoundSteps.{first_is_sealed}
-use Rattle.batch_workers.specs.Works.{EndBusy, IsIdle, Works, is_nothing, pies_at, pies_of_tasks}
+use Rattle.batch_workers.specs.Works.{EndBusy, IsIdle, Works, is_nothing, pies_of_tasks}
 use Rattle.batch_workers.specs.Working.Rounds.{Are, Holds, remaining}
 use Rattle.batch_workers.proofs.Endings.{busy_from}
 use Rattle.batch_workers.proofs.Events.{one_event}

@@ -1,14 +1,12 @@
 -- The turns in which a worker takes, seals, registers and gives back.
-use Rattle.std.proofs.Common.{◌≡◌, ◌≢◌, ℕ, zero, suc, ◌+◌, ◌≤◌, ◌<◌, ◌==◌, Bool, true, false, cond, ◌⊎◌, inl, inr, List, [], ◌∷◌, ◌++◌, length, map, take, drop, refl, sym, ap, ◌∙◌, subst, arith}
-use Rattle.std.specs.Prelude.{All, Option, Some, None, slice_get, sum_by}
+use Rattle.std.proofs.Common.{◌≡◌, ◌≢◌, ℕ, zero, suc, ◌==◌, Bool, true, false, List, [], ◌∷◌, map, take, drop, refl, sym, ap, ◌∙◌}
+use Rattle.std.specs.Prelude.{slice_get}
 use Rattle.std.proofs.lemmas.Bool.{eqb-false, eqb-true}
 use Rattle.std.specs.List.{drop-map, take-map}
 use Rattle.std.specs.Option.{option_map_or}
-use Rattle.cairo_model.specs.Pie.Acceptance.{CheckedRecord}
 use Rattle.cairo_model.specs.Pie.Records.{PieRecord}
-use Rattle.boot_program.specs.Batch.Parcels.{ParcelRecord}
-use Rattle.desk_core.specs.DeskRecords.{DeskRecord, plain_batch, plain_job, plain_of, tasks_at, tasks_in}
-use Rattle.desk_core.specs.Desks.{PlainBatch, PlainDesk, PlainJob, first_sealed, is_sealed, is_taken_by, jobs_at, jobs_in, phase_at, set_phase}
+use Rattle.desk_core.specs.DeskRecords.{plain_batch, plain_job, tasks_in}
+use Rattle.desk_core.specs.Desks.{PlainBatch, PlainDesk, PlainJob, jobs_in, phase_at, set_phase}
 use Rattle.desk_core.specs.declared.batch.Batch.{Batch}
 use Rattle.desk_core.specs.declared.job.Job.{Job}
 use Rattle.desk_core.specs.declared.phase.Phase.{Phase}

@@ -1,9 +1,6 @@
-use Rattle.std.proofs.Common.{◌∙◌, ap, sym, subst}
+use Rattle.std.proofs.Common.{◌∙◌, ap}
 use Rattle.std.specs.Prelude.{Err}
-use Rattle.boot_program.specs.Batch.Parcels.{ParcelRecord}
-use Rattle.boot_program.specs.declared.run_fault.RunFault.{RunFault}
-use Rattle.cairo_model.specs.declared.end.End.{End}
-use Rattle.batch_workers.proofs.RoundEnds.{batch_done, uncertified}
+use Rattle.batch_workers.proofs.RoundEnds.{uncertified}
 use Rattle.batch_workers.proofs.working.run_batch.Goals as goal
 
 pub returns-in-Err-clause-done : goal.returns-in-Err-clause-done
