@@ -74,7 +74,7 @@ def try_examples(five):
 
 
 def try_texts(five):
-    """`run` makes the PIE of a text, which `list` gives back, or names the line or the step that is wrong."""
+    """`run` makes the PIE of a text, or names the line or the step that is wrong."""
     expect("run of an example", run(["run"], input=example("five.casm")), (0, five, b""))
     expect("run of a loop", run(["run"], input=example("down.casm")), (0, example("down_3.pie"), b""))
     expect("run of its listing", run(["run"], input=example("down.listing")), (0, example("down_3.pie"), b""))
