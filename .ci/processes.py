@@ -27,7 +27,7 @@ BATCH = (
     b"3852709440 3500719293 5\n"
 )
 ADMITTED = b"admitted program 644b2c86fee53a4ad40c21efa0e8524e34c75966cf12fcbfe5a3ae40d0a8bcbd outputs 5\n"
-USAGE = b"shared_prover: usage: shared_prover replay | place | list | check | run | boot\n"
+USAGE = b"shared_prover: usage: shared_prover replay | place | list | check | run | boot | make N\n"
 UNREADABLE = b"shared_prover: the input could not be read\n"
 
 failures = []
@@ -57,7 +57,7 @@ def example(name):
 
 
 def try_words(five):
-    for words in ([], ["frob"], ["Replay"], [""], ["replay", "extra"], ["check", "--audit"], ["boot", "1"], [b"\xff"]):
+    for words in ([], ["frob"], ["Replay"], [""], ["replay", "extra"], ["check", "--audit"], ["boot", "1"], ["make"], ["make", "257"], ["make", "00000000003"], [b"\xff"]):
         expect(f"the words {words}", run(words, input=five), (2, b"", USAGE))
 
 
@@ -113,6 +113,13 @@ def try_boot():
         expect("that it leaves the file unread", os.lseek(file.fileno(), 0, os.SEEK_CUR), 0)
     with open("/dev/full", "wb") as full:
         expect("boot with a full device as output", run(["boot"], stdout=full), (5, None, b""))
+
+
+def try_make():
+    """`make 1` hands in one countdown of fourteen rounds, whatever zeros the number begins with."""
+    line = b"submit 0 " + example("down_14.pie").hex().encode() + b"\n"
+    expect("make of one job", run(["make", "1"]), (0, line, b""))
+    expect("make of one job with zeros", run(["make", "0000000001"]), (0, line, b""))
 
 
 def try_streams(five):
@@ -186,6 +193,7 @@ def main():
     try_examples(five)
     try_texts(five)
     try_boot()
+    try_make()
     try_streams(five)
     try_launcher(five)
     try_building()

@@ -1,4 +1,5 @@
 mod CodeCells
+mod CommandLemmas
 mod KeptBytes
 mod OneAnswer
 mod OneOutcome

@@ -120,6 +120,7 @@ module _ (one_verdict : OneVerdict) (one_placement : OnePlacement) (one_certific
       let same = one_outcome input p.outcome q.outcome p.is_outcome q.is_outcome in
       same_reply reply other (p.has_status ∙ ap outcome_status same ∙ sym q.has_status) (p.has_text ∙ ap outcome_text same ∙ sym q.has_text)
   one_answer commands.Boot input reply other p q = same_reply reply other (p.has_status ∙ sym q.has_status) (p.has_text ∙ sym q.has_text)
+  one_answer (commands.Make jobs) input reply other p q = same_reply reply other (p.has_status ∙ sym q.has_status) (p.has_text ∙ sym q.has_text)
   one_answer commands.Check input reply other p q =
       let same = one_check input p.answer q.answer p.is_answer q.is_answer in
       same_reply reply other (p.has_status ∙ ap check_status same ∙ sym q.has_status) (p.has_text ∙ ap check_text same ∙ sym q.has_text)
@@ -148,3 +149,4 @@ no_script commands.List input reply p = λ e. no_verdict p.verdict (sym p.has_st
 no_script commands.Check input reply p = λ e. no_check p.answer (sym p.has_status ∙ e)
 no_script commands.Run input reply p = λ e. no_outcome p.outcome (sym p.has_status ∙ e)
 no_script commands.Boot input reply p = λ e. omega (arith, p.has_status, e)
+no_script (commands.Make jobs) input reply p = λ e. omega (arith, p.has_status, e)

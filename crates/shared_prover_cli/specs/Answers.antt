@@ -2,6 +2,7 @@ pub mod Boot
 pub mod Check
 pub mod CheckTexts
 pub mod List
+pub mod Make
 pub mod Place
 pub mod Replay
 pub mod Run

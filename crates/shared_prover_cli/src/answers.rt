@@ -1,9 +1,10 @@
 ghost use Rattle.shared_prover_cli.specs.Runs.{stream};
-ghost use Rattle.shared_prover_cli.specs.Working.Replying.{ComesTo};
+ghost use Rattle.shared_prover_cli.specs.Working.Replying.{CanBeAsked, ComesTo};
 
 mod boot;
 mod check;
 mod list;
+mod make;
 mod place;
 mod replay;
 mod run;
@@ -11,6 +12,7 @@ mod run;
 use crate::answers::boot::boot_answer;
 use crate::answers::check::check_answer;
 use crate::answers::list::list_answer;
+use crate::answers::make::make_answer;
 use crate::answers::place::place_answer;
 use crate::answers::replay::replay_answer;
 use crate::answers::run::run_answer;
@@ -30,6 +32,7 @@ pub fn reply_to<R: Threads + Sync, S: Source>(
     command: Command,
     source: &mut S,
 ) -> Result<Reply, InputFault>
+    requires { CanBeAsked command }
     ensures { ComesTo command (stream S.left S.faults source.old source.new) result }
 {
     match command {
@@ -39,6 +42,7 @@ pub fn reply_to<R: Threads + Sync, S: Source>(
         Command::Check => check_reply(rt, alloc, source),
         Command::Run => run_reply(alloc, source),
         Command::Boot => Ok(boot_answer(alloc)?),
+        Command::Make(jobs) => Ok(make_answer(alloc, jobs)?),
     }
 }
 

@@ -1,6 +1,10 @@
 ghost use Rattle.std.specs.Prelude.{◌≡◌, [], ◌∷◌, IfSome, IfNone, Some, None, Option};
 ghost use Rattle.shared_prover_cli.specs.Commands.{Asks, AsksForNone, IsPlainCommand, row_of};
 
+use crate::limits::LEAST_JOBS;
+use crate::number::number_in;
+use work_maker::limits::MOST_JOBS;
+
 /// What the program can be asked to do.
 #[derive(Clone, Copy, Debug, PartialEq, Eq)]
 pub enum Command {
@@ -16,6 +20,8 @@ pub enum Command {
     Run,
     /// Writes the words of the bootloader.
     Boot,
+    /// Writes a script of so many jobs.
+    Make(u32),
 }
 
 /// The command that the words ask for.
@@ -25,6 +31,7 @@ pub fn command_in(words: &[String]) -> Option<Command>
 {
     match words {
         [word] => command_named(word.as_str()),
+        [word, number] => command_with(word.as_str(), number.as_str()),
         _ => None,
     }
 }
@@ -48,4 +55,15 @@ fn command_named(word: &str) -> Option<Command>
     } else {
         None
     }
+}
+
+fn command_with(word: &str, number: &str) -> Option<Command>
+    ensures found { IfSome result (λ command. (row_of command).asked_by (word.now ∷ number.now ∷ [])) }
+    ensures none { IfNone result ((command : Command) → IsPlainCommand command → ¬ ((row_of command).asked_by (word.now ∷ number.now ∷ []))) }
+{
+    if word != "make" {
+        return None;
+    }
+    let jobs = number_in(number, LEAST_JOBS, MOST_JOBS)?;
+    Some(Command::Make(jobs))
 }

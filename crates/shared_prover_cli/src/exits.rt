@@ -15,7 +15,9 @@ pub fn exit_code(status: Status) -> ExitCode
 /// What standard error says of a run that wrote nothing.
 pub fn explanation(status: Status) -> Option<&'static str> {
     match status {
-        Status::Usage => Some("usage: shared_prover replay | place | list | check | run | boot"),
+        Status::Usage => Some(
+            "usage: shared_prover replay | place | list | check | run | boot | make N",
+        ),
         Status::ReadFault => Some("the input could not be read"),
         Status::OutOfMemory => Some("out of memory"),
         Status::TooLong => Some("the input is longer than 201326592 bytes"),

@@ -6,3 +6,9 @@ pub const READ_BYTES: usize = 65_536;
 
 /// How often a call that a signal interrupted is tried.
 pub const TRIES: u32 = 65_536;
+
+/// The most digits of a number among the words.
+pub const MOST_DIGITS: usize = 10;
+
+/// The fewest jobs that a script is made of.
+pub const LEAST_JOBS: u32 = 1;

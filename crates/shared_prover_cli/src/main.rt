@@ -18,6 +18,7 @@ mod limits;
 #[cfg(test)]
 mod list_tests;
 mod memory;
+mod number;
 mod outputs;
 #[cfg(test)]
 mod placing_tests;

@@ -1,6 +1,6 @@
 -- What comes of a command that is asked for.
 use Rattle.std.specs.Prelude.{◌≡◌, ◌≢◌, ℕ, List, Result, Err, IfOk}
-use Rattle.shared_prover_cli.specs.Commands.{AnswerOf, reads_input}
+use Rattle.shared_prover_cli.specs.Commands.{AnswerOf, reads_input, row_of}
 use Rattle.shared_prover_cli.specs.Replies.{ReplyRecord}
 use Rattle.shared_prover_cli.specs.Runs.{HasInput, ReadFails, ReadsBeyond, ReadsWithin, Stream}
 use Rattle.shared_prover_cli.specs.Working.Replies.{reply_view}
@@ -8,6 +8,10 @@ use Rattle.shared_prover_cli.specs.declared.command.Command.{Command}
 use Rattle.shared_prover_cli.specs.declared.reply.Reply.{Reply}
 use Rattle.shared_prover_cli.specs.declared.whole.InputFault.{InputFault}
 use Rattle.shared_prover_cli.specs.declared.whole.InputFault.TheVariants.{ReadFault, TooLong}
+
+-- some words ask for it
+abbrev pub CanBeAsked : Command → Type 0
+CanBeAsked command = (words : List (List ℕ)) × (row_of command).asked_by words
 
 -- its reply to the input that it has
 pub record IsReplyTo (command : Command) (source : Stream) (reply : ReplyRecord) : Type 0 where

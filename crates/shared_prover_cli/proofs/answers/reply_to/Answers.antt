@@ -1,6 +1,6 @@
 use Rattle.std.proofs.Common.{[], Ok, refl, rules, subst, sym}
 use Rattle.shared_prover_cli.specs.Runs.{stream}
-use Rattle.shared_prover_cli.specs.Working.Replying.{ComesTo}
+use Rattle.shared_prover_cli.specs.Working.Replying.{CanBeAsked, ComesTo}
 use Rattle.shared_prover_cli.specs.declared.command.Command.{Command}
 use Rattle.shared_prover_cli.specs.declared.command.Command.TheVariants as commands
 use Rattle.shared_prover_cli.proofs.answers.reply_to.Goals as goal
@@ -35,3 +35,24 @@ returns-in_ok-boot_answer-in-Boot g c =
       failed = search rules;
     } in
     subst (λ (command : Command). ComesTo command source (Ok c.in_ok-boot_answer-in-Boot.field-0)) (sym c.in-Boot.is) comes
+
+pub returns-in_ok-make_answer-in-Make : goal.returns-in_ok-make_answer-in-Make
+returns-in_ok-make_answer-in-Make g c =
+    let source = stream g.S.Source.left g.S.Source.faults c.args.source.now c.args.source.now in
+    let comes : ComesTo (commands.Make c.in-Make.jobs) source (Ok c.in_ok-make_answer-in-Make.field-0) = record {
+      answered = record {
+        input = [];
+        has_input = (refl, refl);
+        answer = c.in_ok-make_answer-in-Make.ensures;
+      };
+      long = search rules;
+      within = λ other. refl;
+      failed = search rules;
+    } in
+    subst (λ (command : Command). ComesTo command source (Ok c.in_ok-make_answer-in-Make.field-0)) (sym c.in-Make.is) comes
+
+-- the number was in its range when it was read
+pub make_answer-requires : goal.make_answer-requires
+make_answer-requires g c =
+    let asked : CanBeAsked (commands.Make c.in-Make.jobs) = subst CanBeAsked c.in-Make.is c.requires in
+    asked.1.is_number.below
