@@ -24,13 +24,19 @@ fn refusal(alloc: Global, text: &[u8], clients: u32) -> Option<ScriptRefusal> {
 #[test]
 fn each_kind_of_line_is_read(rt: HostRuntime) -> Result<(), Fail> {
     let alloc = rt.alloc();
-    let text = format!(in alloc; "submit 1 00fF\nsubmit 0 \nask 0 {FIVE_HASH} 5\nstatus 1 4294967295\nsettle 0\n")?;
+    let text = format!(in alloc;
+        "submit 1 00fF\nsubmit 0 \nask 0 {FIVE_HASH} 5\nstatus 1 4294967295\nsettle 0\n"
+    )?;
     let script = read_script(alloc, text.as_bytes(), 2)?;
 
     assert_eq!(rt; script.lines.len(), 5);
-    assert!(rt; matches!(&script.lines[0], Line::Submit(1, bytes) if bytes.as_slice() == [0, 255].as_slice()));
+    assert!(rt;
+        matches!(&script.lines[0], Line::Submit(1, bytes) if bytes.as_slice() == [0, 255].as_slice())
+    );
     assert!(rt; matches!(&script.lines[1], Line::Submit(0, bytes) if bytes.is_empty()));
-    assert!(rt; matches!(&script.lines[2], Line::Ask(0, fact) if fact.outputs.as_slice().len() == 1));
+    assert!(rt;
+        matches!(&script.lines[2], Line::Ask(0, fact) if fact.outputs.as_slice().len() == 1)
+    );
     assert!(rt; matches!(&script.lines[3], Line::Status(1, 4_294_967_295)));
     assert!(rt; matches!(&script.lines[4], Line::Settle(0)));
     Ok(())
@@ -75,11 +81,18 @@ fn a_transcript_tells_of_offers_and_batches(rt: HostRuntime) -> Result<(), Fail>
     let mut desk = Desk::new(alloc, 2)?;
     let checked = admit(alloc, decode(alloc, FIVE)?.as_slice())?;
     desk.submit(alloc, 0, 0, Offer::Accepted(checked))?;
-    desk.submit(alloc, 1, 1, Offer::Refused(Refusal::Read(ReadRefusal::Truncated(359))))?;
+    desk.submit(
+        alloc,
+        1,
+        1,
+        Offer::Refused(Refusal::Read(ReadRefusal::Truncated(359))),
+    )?;
     desk.seal(alloc, 0)?;
 
     let told = transcript(alloc, &desk)?;
-    let expected = format!(in alloc; "client 0 submit admitted 0 program {FIVE_HASH} outputs 5\nclient 1 submit refused 3 359\nbatch 0 steps 6 jobs 0.0\nend\n")?;
+    let expected = format!(in alloc;
+        "client 0 submit admitted 0 program {FIVE_HASH} outputs 5\nclient 1 submit refused 3 359\nbatch 0 steps 6 jobs 0.0\nend\n"
+    )?;
     assert_eq!(rt; told.as_slice(), expected.as_bytes());
     Ok(())
 }
