@@ -40,6 +40,7 @@ mod registry;
 mod replays;
 #[cfg(test)]
 mod runs;
+#[cfg(test)]
 mod scripts;
 #[cfg(test)]
 mod steps;
