@@ -1,16 +1,17 @@
 #!/usr/bin/env python3
-"""Times `check` beside plain Rust in one run, and prints a table for docs/BENCHMARK.md.
+"""Times a command beside plain Rust in one run, and prints a table for docs/BENCHMARK.md.
 
-Usage: beside.py PLAIN SMALL FILE [FILE ..]    (at the repository's top, after the program is built)
+Usage: beside.py COMMAND PLAIN SMALL FILE [FILE ..]    (at the repository's top, after the program is built)
 
-PLAIN is docs/bench/plain_check.rs, compiled. Each file is a certificate, given to both in turn forty times; the least processor
-time of each counts (user and system), less that over SMALL, a certificate of a few rows, which is the price of a process.
+PLAIN is docs/bench/plain_check.rs or plain_run.rs, compiled. Each file is given to both in turn forty times; the least processor
+time of each counts (user and system), less that over SMALL, a certificate of a few rows or a short text, which is the price of a
+process.
 """
 import os
 import subprocess
 import sys
 
-OURS = ["crates/shared_prover_cli/out/shared_prover_cli", "check"]
+PROGRAM = "crates/shared_prover_cli/out/shared_prover_cli"
 
 
 def processor_time(command, path):
@@ -22,13 +23,13 @@ def processor_time(command, path):
 
 
 def main():
-    plain, small, paths = [sys.argv[1]], sys.argv[2], sys.argv[3:]
-    print("| File | `check` (ms) | Plain Rust (ms) | Ratio |")
+    program, plain, small, paths = [PROGRAM, sys.argv[1]], [sys.argv[2]], sys.argv[3], sys.argv[4:]
+    print(f"| File | `{sys.argv[1]}` (ms) | Plain Rust (ms) | Ratio |")
     print("|---|---|---|---|")
     for path in paths:
         least = {}
         for _ in range(40):
-            for name, command, given in (("ours", OURS, path), ("plain", plain, path), ("a", OURS, small), ("b", plain, small)):
+            for name, command, given in (("ours", program, path), ("plain", plain, path), ("a", program, small), ("b", plain, small)):
                 spent = processor_time(command, given)
                 least[name] = min(spent, least.get(name, spent))
         ours, theirs = least["ours"] - least["a"], least["plain"] - least["b"]
