@@ -100,8 +100,6 @@ fn the_facts_of_a_registered_batch_stand(rt: HostRuntime) -> Result<(), Fail> {
     assert!(rt; matches!(end, RegisterEnd::Done));
     assert!(rt; desk.clients() > 0);
     assert_eq!(rt; desk.ask(alloc, 0, 0, five.fact())?, Reply::Yes);
-    assert_eq!(rt; desk.batches()[0].phase, Phase::Registered);
-    assert!(rt; desk.batches()[0].cert.is_some());
     Ok(())
 }
 
