@@ -122,6 +122,26 @@ def try_make():
     expect("make of one job with zeros", run(["make", "0000000001"]), (0, line, b""))
 
 
+def try_scripts():
+    """`batch` writes the transcript of a script, `export` a batch's certificate and `trial` its numbers; a bad line is named."""
+    for name, clients in {"three": 1, "asks": 1, "two_clients": 2, "four_clients": 4}.items():
+        expect(f"batch of {name}", run(["batch", "--clients", str(clients)], input=example(f"{name}.script")),
+               (0, example(f"{name}.transcript"), b""))
+    expect("batch of no lines", run(["batch", "--clients=1"]), (0, b"end\n", b""))
+    for script, text in {
+        example("bad_client.script"): b"script 2 4\n", b"settle 0\nsettle 0": b"script 2 1\n", b"submit 0 0\n": b"script 1 5\n",
+    }.items():
+        expect(f"batch of {script[:20]}", run(["batch", "--clients", "1"], input=script), (3, text, b""))
+    three = example("three.script")
+    status, certificate, _ = run(["export", "--batch=0", "--clients", "1"], input=three)
+    expect("export of a batch", (status, run(["check"], input=certificate or b"")), (0, (0, BATCH, b"")))
+    expect("export of a batch too many", run(["export", "--clients", "1", "--batch", "1"], input=three), (1, b"refused batch 1 1\n", b""))
+    expect("trial of 4", run(["trial", "4"]), (0, b"jobs 4\nbatches 1\nfacts 4\nsteps 4312\n", b""))
+    expect("trial of 40", run(["trial", "40"]), (0, b"jobs 40\nbatches 3\nfacts 40\nsteps 39840\n", b""))
+    for words in (["batch"], ["batch", "--clients", "0"], ["batch", "--clients", "17"], ["export", "--clients", "1"], ["trial", "0"]):
+        expect(f"the words {words}", run(words, input=three), (2, b"", USAGE))
+
+
 def try_streams(five):
     source = os.open(EXAMPLES, os.O_RDONLY)
     expect("a directory as input", run(["replay"], stdin=source), (4, b"", UNREADABLE))
@@ -194,6 +214,7 @@ def main():
     try_texts(five)
     try_boot()
     try_make()
+    try_scripts()
     try_streams(five)
     try_launcher(five)
     try_building()
