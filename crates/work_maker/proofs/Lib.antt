@@ -1,3 +1,4 @@
+pub mod AdmittedJobs
 pub mod CellRows
 pub mod Countdowns
 pub mod DownAccepted
@@ -5,4 +6,5 @@ pub mod DownCells
 pub mod DownRules
 pub mod DownRuns
 pub mod DownSteps
+pub mod Files
 pub mod Scripts
