@@ -1,5 +1,5 @@
 -- The generator's script is the script of its lines, and what they hand in is admitted.
-use Rattle.std.proofs.Common.{◌≡◌, ℕ, zero, suc, ◌+◌, ◌*◌, ◌/◌, ◌%◌, ◌^◌, ◌<◌, ◌≤◌, ◌==◌, Bool, true, false, if◌then◌else◌, List, [], ◌∷◌, ◌++◌, length, codes, decimal, Ok, refl, sym, ap, subst, ◌∙◌, arith, append_assoc, length-append}
+use Rattle.std.proofs.Common.{◌≡◌, ℕ, zero, suc, ◌+◌, ◌*◌, ◌^◌, ◌<◌, ◌≤◌, ◌==◌, Bool, true, false, if◌then◌else◌, List, [], ◌∷◌, ◌++◌, length, codes, decimal, Ok, refl, sym, ap, subst, ◌∙◌, arith, append_assoc, length-append}
 use Rattle.std.specs.List.{AllByRecursion, slice_split}
 use Rattle.std.proofs.lemmas.List.{append-nil}
 use Rattle.std.proofs.lemmas.List.Splits.{slice_split_at}
@@ -12,7 +12,7 @@ use Rattle.work_maker.specs.Generator.{client_of_job, down_digits, is_asked_abou
 use Rattle.work_maker.specs.Limits.{script_clients}
 use Rattle.work_maker.proofs.AdmittedJobs.{down_decodes, few_rounds, file_admitted, some_rounds}
 use Rattle.made_scripts.specs.MadeLines.{HandsInAdmitted, made_lines, made_question, made_submit}
-use Rattle.made_scripts.proofs.LineBytes.{AreSolid, HasNo, fields_text, no_feed, question_nested, solid_decimal, solid_digits, solid_text, submit_nested, three_fields}
+use Rattle.made_scripts.proofs.LineBytes.{HasNo, fields_text, no_feed, question_nested, solid_decimal, solid_digits, solid_text, submit_nested, three_fields}
 
 -- ---- parts of a script
 

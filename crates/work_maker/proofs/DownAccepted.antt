@@ -1,19 +1,16 @@
 -- The PIE of DOWN is accepted alone, with the output 1.
-use Rattle.std.proofs.Common.{◌≡◌, ℕ, zero, suc, ◌+◌, ◌*◌, ◌-◌, ◌<◌, ◌≤◌, List, [], ◌∷◌, length, map, get_or, slice_get, slice_index, Option, Some, refl, sym, ap, ◌∙◌, arith}
-use Rattle.std.specs.List.{All}
+use Rattle.std.proofs.Common.{◌≡◌, ℕ, zero, suc, ◌+◌, ◌*◌, ◌<◌, ◌≤◌, List, [], ◌∷◌, length, map, slice_get, slice_index, Option, Some, refl, sym, ap, ◌∙◌, arith}
 use Rattle.std.proofs.lemmas.Option.{slice_get-get_or}
 use Rattle.std.proofs.lemmas.List.{get_or-map, length-map}
 use Rattle.builtin_hash.specs.Programs.{program_hash_of}
 use Rattle.cairo_model.specs.Machine.Values.{Datum, number, place}
-use Rattle.cairo_model.specs.Machine.Steps.{Registers, value_arithmetic}
-use Rattle.cairo_model.specs.Pie.Acceptance.{AcceptedAlone, AcceptedWith, FactRecord, HasFrame, HasInstances, HasRangeCells, HasStopPointers, HoldsNumbers, IsFactOf, IsHome, IsolatedRun, start_of}
-use Rattle.cairo_model.specs.Pie.BuiltinCells.{AreInstances}
+use Rattle.cairo_model.specs.Pie.Acceptance.{AcceptedWith, FactRecord, HasFrame, HasInstances, HasRangeCells, HasStopPointers, HoldsNumbers, IsFactOf, IsHome, IsolatedRun, start_of}
 use Rattle.cairo_model.specs.Pie.Records.{PieRecord, memory_of, segment_size, value_at}
 use Rattle.cairo_model.specs.Segments.{builtin_mask, program_segment, output_segment, range_segment, hash_segment}
 use Rattle.work_maker.specs.Accepted.{IsAcceptedGiving}
 use Rattle.work_maker.specs.Down.{down_cells, down_code, down_outputs, down_pie}
 use Rattle.work_maker.specs.Limits.{round_steps}
-use Rattle.work_maker.proofs.DownCells.{HasDown, has_down}
+use Rattle.work_maker.proofs.DownCells.{has_down}
 use Rattle.work_maker.proofs.DownRules.{down_rules}
 use Rattle.work_maker.proofs.DownRuns.{ComesHome, down_comes_home}
 use Rattle.work_maker.proofs.DownSteps.{found_below, home, inside}

@@ -1,8 +1,7 @@
 -- What a look-up finds in the cells of DOWN: its words, its stack and its output.
-use Rattle.std.proofs.Common.{◌≡◌, ℕ, zero, suc, ◌+◌, ◌<◌, ◌==◌, ◌&&◌, true, false, List, [], ◌∷◌, ◌++◌, length, map, slice_get, Option, Some, refl, sym, ap, ◌∙◌, arith}
-use Rattle.std.proofs.lemmas.List.{append-nil}
+use Rattle.std.proofs.Common.{◌≡◌, ℕ, zero, suc, ◌+◌, ◌<◌, ◌==◌, ◌&&◌, true, false, List, [], ◌∷◌, ◌++◌, length, map, slice_get, Option, Some, refl, sym, ◌∙◌, arith}
 use Rattle.cairo_model.specs.Machine.Values.{Datum, number, place}
-use Rattle.cairo_model.specs.Pie.Records.{MemoryCell, memory_of, stands_at, value_at}
+use Rattle.cairo_model.specs.Pie.Records.{MemoryCell, memory_of, value_at}
 use Rattle.cairo_model.specs.Segments.{program_segment, execution_segment, output_segment}
 use Rattle.cairo_model.proofs.Chains.{both}
 use Rattle.cairo_model.proofs.NumberTests.{is_eq, is_not}

@@ -1,6 +1,6 @@
 -- The run of DOWN: three steps to the first round, four a round, and five at the end.
-use Rattle.std.proofs.Common.{◌≡◌, ℕ, zero, suc, ◌+◌, ◌*◌, ◌^◌, ◌<◌, List, [], ◌∷◌, ◌++◌, Option, Some, refl, ◌∙◌, arith}
-use Rattle.cairo_model.specs.Machine.Values.{Datum, number, place}
+use Rattle.std.proofs.Common.{◌≡◌, ℕ, zero, suc, ◌+◌, ◌*◌, ◌^◌, ◌<◌, List, [], ◌∷◌, ◌++◌, Option, refl, ◌∙◌, arith}
+use Rattle.cairo_model.specs.Machine.Values.{Datum, number}
 use Rattle.cairo_model.specs.Machine.Runs.{Passes}
 use Rattle.cairo_model.specs.Machine.Steps.{Registers, value_arithmetic}
 use Rattle.cairo_model.specs.Segments.{execution_segment}

@@ -1,5 +1,5 @@
 -- The steps of DOWN over a memory that has it.
-use Rattle.std.proofs.Common.{◌≡◌, ◌≢◌, ℕ, zero, suc, ◌+◌, ◌-◌, ◌%◌, ◌^◌, ◌<◌, ◌==◌, true, false, if◌then◌else◌, List, [], ◌∷◌, ◌++◌, ℤ, pos, negsuc, Option, Some, refl, sym, ap, ◌∙◌, arith}
+use Rattle.std.proofs.Common.{◌≡◌, ℕ, zero, suc, ◌+◌, ◌^◌, ◌<◌, ◌==◌, false, ℤ, pos, negsuc, Option, Some, refl, ap, ◌∙◌, arith}
 use Rattle.std.specs.Prelude.{option_and_then}
 use Rattle.std.proofs.lemmas.Bool.{lt-ltb}
 use Rattle.cairo_word.specs.Word.{Fields}
@@ -7,12 +7,11 @@ use Rattle.cairo_word.specs.declared.word.Reg.{Reg}
 use Rattle.cairo_word.specs.declared.word.Reg.TheVariants.{Ap, Fp}
 use Rattle.goldi_field.specs.Numbers.{sum_of, difference_of}
 use Rattle.cairo_model.specs.Machine.Values.{Datum, number, place, place_at, Difference}
-use Rattle.cairo_model.specs.Machine.Steps.{Registers, Moves, Step, after, decoded, found, moved, next_pc, next_ap, next_fp, offset_number, op1_from, register_in, result_of, value_arithmetic}
+use Rattle.cairo_model.specs.Machine.Steps.{Registers, Step, after, decoded, found, moved, next_pc, offset_number, op1_from, register_in, result_of, value_arithmetic}
 use Rattle.cairo_model.specs.Segments.{program_segment, execution_segment, output_segment, range_segment, hash_segment, return_fp_segment, return_pc_segment}
 use Rattle.cairo_model.proofs.Inversion.{moved_so, value_exact}
 use Rattle.cairo_model.proofs.NumberTests.{is_not}
-use Rattle.work_maker.specs.Down.{round_values, countdown, down_stops}
-use Rattle.work_maker.proofs.DownCells.{HasDown, StandFrom}
+use Rattle.work_maker.proofs.DownCells.{HasDown}
 
 -- ---- places
 

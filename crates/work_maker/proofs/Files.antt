@@ -1,6 +1,6 @@
 -- The bytes that are written for a PIE are a file of it.
-use Rattle.std.proofs.Common.{◌≡◌, ◌≢◌, ℕ, zero, suc, ◌+◌, ◌/◌, ◌^◌, ◌<◌, ◌≤◌, Bool, true, List, [], ◌∷◌, ◌++◌, length, map, sum, slice_index, lit<, Option, Some, option_map, codes, decimal, refl, sym, ap, ◌∙◌, arith}
-use Rattle.std.specs.Prelude.{IsUtf8, nat_lt, option_and_then}
+use Rattle.std.proofs.Common.{◌≡◌, ℕ, zero, suc, ◌/◌, ◌^◌, ◌<◌, ◌≤◌, true, List, [], ◌∷◌, ◌++◌, length, map, sum, lit<, Option, Some, option_map, codes, decimal, refl, sym, ap, ◌∙◌, arith}
+use Rattle.std.specs.Prelude.{nat_lt, option_and_then}
 use Rattle.std.specs.Int.{w16, w32, w64, to_be_bytes, byte_at, bytes_high_first}
 use Rattle.std.specs.List.{flat_map, list_all}
 use Rattle.std.specs.Str.{IsAscii}
@@ -16,7 +16,7 @@ use Rattle.json.specs.Tree as tree
 use Rattle.json.proofs.Printed.Decimals.{IsNumber-decimal}
 use Rattle.json.proofs.Printed.Tokens.{tokens-print}
 use Rattle.json.proofs.Printed.Trees.{ArePrintable-json_tokens, value-json_tokens}
-use Rattle.serde_json.specs.Data.{Data, Items, item}
+use Rattle.serde_json.specs.Data.{Data, item}
 use Rattle.serde_json.specs.Read.{read, max_depth, of_json, of_items}
 use Rattle.serde_json.specs.View.{items_of}
 use Rattle.serde_json.specs.Written.{outline, items_outline}
@@ -29,7 +29,7 @@ use Rattle.cairo_model.specs.Pie.Files.{PieBytes, cell_bytes, cells_bytes, magic
 use Rattle.cairo_model.specs.Pie.Records.{KeepsRules, MemoryCell, PieRecord}
 use Rattle.hex.specs.Hex.{IsBytes}
 use Rattle.pie_format.proofs.WritingLaws.{is_file, is_metadata, text_short, text_written}
-use Rattle.pie_format.specs.Working.MetadataData.{metadata_data, sizes_data, whole}
+use Rattle.pie_format.specs.Working.MetadataData.{metadata_data, whole}
 use Rattle.pie_format.specs.Writing.{file_of, metadata_text, more_sizes, sizes_text}
 
 -- ---- the metadata is read back
