@@ -1,3 +1,4 @@
+pub mod Accepted
 pub mod Limits
 pub mod Down
 pub mod Generator

@@ -9,4 +9,4 @@ mod rows;
 
 pub use countdown::down;
 pub use generator::make_script;
-pub use laws::down_keeps_rules;
+pub use laws::{down_is_accepted, down_keeps_rules, made_jobs_are_admitted};
