@@ -10,7 +10,7 @@ use Rattle.work_maker.specs.Limits.{script_clients, jobs_to_a_status, most_round
 abbrev pub client_of_job : ℕ → ℕ
 client_of_job job = job % script_clients
 
--- which of its client's jobs it is, round_values from 0
+-- which of its client's jobs it is, counted from 0
 abbrev pub number_of_job : ℕ → ℕ
 number_of_job job = job / script_clients
 
