@@ -1,6 +1,6 @@
 ghost use Rattle.std.specs.Prelude.{◌≤◌};
 
-use shared_prover_cli::{MemSink, MemSource, run_plain};
+use shared_prover_cli::{MemSink, MemSource, SureSource, run_plain};
 use std::test::Fail;
 use std::thread::Threads;
 
@@ -28,4 +28,20 @@ pub fn answer_in_pieces(
     let mut sink = MemSink::new(rt.alloc(), 4_000, 100, Vec::new(rt.alloc()))?;
     let status = run_plain(rt, rt.alloc(), words.as_slice(), &mut source, &mut sink);
     Ok((status.number(), sink.bytes().to_vec(rt.alloc())?))
+}
+
+/// What the program ends with at these words and bytes, and what it writes, at most 100,000 bytes.
+pub fn asked(
+    rt: &(impl Threads + Sync + AllocGlobal),
+    texts: &[&str],
+    bytes: Vec<u8>,
+) -> Result<(u8, Vec<u8>), Fail> {
+    let mut words = Vec::new(rt.alloc());
+    for text in texts {
+        words.push(text.to_string(rt.alloc())?)?;
+    }
+    let mut source = SureSource::new(bytes);
+    let mut sink = MemSink::new(rt.alloc(), 100_000, 4_000, Vec::new(rt.alloc()))?;
+    let ended = run_plain(rt, rt.alloc(), words.as_slice(), &mut source, &mut sink);
+    Ok((ended.status.number(), sink.bytes().to_vec(rt.alloc())?))
 }

@@ -17,4 +17,6 @@ mod replay;
 #[cfg(test)]
 mod roomy;
 #[cfg(test)]
+mod scripts;
+#[cfg(test)]
 mod streams;
