@@ -18,6 +18,8 @@ pub mod NextSealed
 pub mod SealTurn
 pub mod TakeTurn
 pub mod Isolated
+pub mod HandLemmas
+pub mod StaysLemmas
 pub mod PlainTurns
 pub mod BackTurn
 pub mod SameLists
