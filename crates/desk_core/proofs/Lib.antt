@@ -12,6 +12,7 @@ pub mod FactLemmas
 pub mod Entries
 pub mod Turns
 pub mod Usages
+pub mod Places
 pub mod SubmitTurn
 pub mod QuietTurns
 pub mod NextSealed
@@ -21,6 +22,7 @@ pub mod Isolated
 pub mod HandLemmas
 pub mod StaysLemmas
 pub mod PlainTurns
+pub mod TellTurn
 pub mod BackTurn
 pub mod SameLists
 pub mod RegisterTurn

@@ -21,6 +21,7 @@ mod register_end;
 mod reply;
 mod same_tasks;
 mod seal;
+mod status;
 mod submit;
 mod take;
 mod usage;
