@@ -1,0 +1,5 @@
+use Rattle.session_desk.proofs.Adding.{adds_one}
+use Rattle.session_desk.proofs.asking.AskingChangeHeld.apply.Goals as goal
+
+pub returns-clause-adds : goal.returns-clause-adds
+returns-clause-adds c = adds_one _ _ c.args.number _ _ c.ask.result c.ask.ensures.ok c.ask.ensures.err

@@ -1,0 +1,8 @@
+use Rattle.session_desk.proofs.Mine.{leaves_registration}
+use Rattle.session_desk.proofs.Turning.{pass_turn}
+use Rattle.session_desk.proofs.shared.SharedDesk.register.Goals as goal
+
+pub returns-clause-mine : goal.returns-clause-mine
+returns-clause-mine g c =
+    let t = c.turn.ensures in
+    leaves_registration c.args.batch c.args.certified c.args.pass.now c.turn.new.pass c.turn.result (record { before = t.before.desk; after = t.after.desk; turn = pass_turn _ _ c.args.pass.now c.turn.new.pass c.turn.result t t.done.0; done = t.done.1 })

@@ -1,0 +1,4 @@
+pub mod Offers
+pub mod Sessions
+pub mod SeenDesks
+pub mod PassTurns
