@@ -6,12 +6,12 @@ ghost use Rattle.desk_script.specs.Views.{line_view};
 ghost use Rattle.script_runner.specs.Lines.{line_client};
 ghost use Rattle.script_runner.specs.Working.Doing.{DidLine, DidLines, NoneTaken, Settled};
 
-use crate::offers::offer_of;
 use batch_runner::Maker;
 use batch_workers::{WorkEnd, work_plain};
 use cairo_model::Fact;
 use desk_core::Desk;
 use desk_script::Line;
+use session_desk::offer_of;
 use std::alloc::{AllocError, Global};
 use std::thread::Threads;
 
