@@ -41,21 +41,21 @@ IsNoteOfFile bytes (note.Accepted shape fact) = (found : CheckedRecord) × IsVer
 IsNoteOfFile bytes (note.Refused refusal) = IsVerdict bytes (refused refusal)
 
 -- the file that the client hands in by this line, if it does
-abbrev pub file_of : ℕ → ScriptLine → Option (List ℕ)
-file_of client (submits c bytes) = if c == client then Some bytes else None
-file_of client (asks c fact) = None
-file_of client (asks_status c number) = None
-file_of client (settles c) = None
+abbrev pub handed_file : ℕ → ScriptLine → Option (List ℕ)
+handed_file client (submits c bytes) = if c == client then Some bytes else None
+handed_file client (asks c fact) = None
+handed_file client (asks_status c number) = None
+handed_file client (settles c) = None
 
 -- the files that it hands in, in order
-abbrev pub files_of : ℕ → List ScriptLine → List (List ℕ)
-files_of client [] = []
-files_of client (line ∷ lines) = cons_option (file_of client line) (files_of client lines)
+abbrev pub handed_files : ℕ → List ScriptLine → List (List ℕ)
+handed_files client [] = []
+handed_files client (line ∷ lines) = cons_option (handed_file client line) (handed_files client lines)
 
 -- the submit lines that these lines of a script have for the client, by its own alone
 pub record AreOwnLines (client : ℕ) (lines : List ScriptLine) (texts : List (List ℕ)) : Type 0 where
   pub notes : List OfferNote
-  pub are : AllZip IsNoteOfFile (files_of client lines) notes
+  pub are : AllZip IsNoteOfFile (handed_files client lines) notes
   pub own : texts ≡ own_lines client notes
 
 -- ---- in a journal
@@ -70,9 +70,9 @@ from_close [] = []
 from_close (e ∷ es) = if is_close e.event then e ∷ es else from_close es
 
 -- what the client offered, in order
-abbrev pub notes_in : ℕ → List Entry → List OfferNote
-notes_in client [] = []
-notes_in client (e ∷ es) = cons_option (offered_by client e.event) (notes_in client es)
+abbrev pub client_notes : ℕ → List Entry → List OfferNote
+client_notes client [] = []
+client_notes client (e ∷ es) = cons_option (offered_by client e.event) (client_notes client es)
 
 -- the transcript's lines of the client's offers
 abbrev pub submit_lines : ℕ → List Entry → List (List ℕ)
@@ -83,7 +83,7 @@ entries_in journal = map (λ e. e.entry) journal
 
 -- before the first close the client's submit lines are those of its own offers
 abbrev pub OwnBeforeClose : ℕ → List Entry → Type 0
-OwnBeforeClose client es = submit_lines client (before_close es) ≡ own_lines client (notes_in client (before_close es))
+OwnBeforeClose client es = submit_lines client (before_close es) ≡ own_lines client (client_notes client (before_close es))
 
 abbrev pub JournalsHaveOwnLines : Type 0
 JournalsHaveOwnLines = (journal : List FullEntry) (d : PlainDesk) → IsLegal journal d → (client : ℕ) → OwnBeforeClose client (entries_in journal)
@@ -97,5 +97,5 @@ OffersInTime client es = All (λ e. offered_by client e.event ≡ None) (from_cl
 
 -- Where the client offers in time just what its lines of a script hand in, its submit lines are those of these lines.
 abbrev pub ScriptsHaveOwnLines : Type 0
-ScriptsHaveOwnLines = (d : DeskRecord) → IsGoodDesk d → (client : ℕ) (lines : List ScriptLine) → OffersInTime client d.entries → AllZip IsNoteOfFile (files_of client lines) (notes_in client d.entries)
+ScriptsHaveOwnLines = (d : DeskRecord) → IsGoodDesk d → (client : ℕ) (lines : List ScriptLine) → OffersInTime client d.entries → AllZip IsNoteOfFile (handed_files client lines) (client_notes client d.entries)
     → AreOwnLines client lines (submit_lines client d.entries)

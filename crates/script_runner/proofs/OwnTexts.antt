@@ -20,7 +20,7 @@ use Rattle.desk_core.specs.declared.offer.Offer.{Offer}
 use Rattle.desk_core.specs.declared.offer.Offer.TheVariants as offer
 use Rattle.desk_script.proofs.OwnLineLemmas.{scripts_have_own_lines}
 use Rattle.desk_script.specs.Lines.{ScriptLine, asks, asks_status, settles, submits}
-use Rattle.desk_script.specs.OwnLines.{AreOwnLines, IsNoteOfFile, OffersInTime, entries_in, files_of, from_close, notes_in, submit_lines}
+use Rattle.desk_script.specs.OwnLines.{AreOwnLines, IsNoteOfFile, OffersInTime, entries_in, handed_files, from_close, client_notes, submit_lines}
 use Rattle.session_desk.specs.Offers.{OffersBytes}
 use Rattle.script_runner.specs.Lines.{DoesLines}
 use Rattle.script_runner.proofs.OwnReplies.{IsOwnEvent, OwnOf, lines_own}
@@ -32,7 +32,7 @@ entries_are [] pies = refl
 entries_are (e ∷ es) pies = ap (λ (xs : List Entry). e ∷ xs) (entries_are es (pies_left (is_admitted e.reply) pies))
 
 abbrev noted : ℕ → List FullEntry → List OfferNote
-noted c es = notes_in c (entries_in es)
+noted c es = client_notes c (entries_in es)
 
 onto : (o : Option OfferNote) (xs ys all : List OfferNote) → all ≡ xs ++ ys → cons_option o all ≡ cons_option o xs ++ ys
 onto None xs ys all is = is
@@ -87,7 +87,7 @@ one_then : {X : Type 0} (o : Option X) (xs : List X) → cons_option o [] ++ xs 
 one_then None xs = refl
 one_then (Some x) xs = refl
 
-files_noted : (c : ℕ) (ls : List ScriptLine) (es : List FullEntry) → DoesLines ls es → AllZip IsNoteOfFile (files_of c ls) (noted c es)
+files_noted : (c : ℕ) (ls : List ScriptLine) (es : List FullEntry) → DoesLines ls es → AllZip IsNoteOfFile (handed_files c ls) (noted c es)
 files_noted c [] es done = subst (AllZip IsNoteOfFile []) (sym (ap (noted c) done)) tt
 files_noted c (submits client bytes ∷ ls) es (front, rest, is, this, those) =
     let h = this.of_line in
@@ -95,14 +95,14 @@ files_noted c (submits client bytes ∷ ls) es (front, rest, is, this, those) =
     one_noted c front this.one (event.Submit client (offer_note h.offer)) this.are (ap (λ (e : FullEntry). e.entry.event) h.entry) in
     let all : noted c es ≡ cons_option (cond (client == c) (Some (offer_note h.offer)) None) (noted c rest) =
     noted_split c es front rest _ is one ∙ one_then (cond (client == c) (Some (offer_note h.offer)) None) (noted c rest) in
-    subst (AllZip IsNoteOfFile (cons_option (cond (client == c) (Some bytes) None) (files_of c ls))) (sym all)
-    (zip_file (client == c) bytes (offer_note h.offer) (files_of c ls) (noted c rest) (note_of_file bytes h.offer h.of_bytes) (files_noted c ls rest those))
+    subst (AllZip IsNoteOfFile (cons_option (cond (client == c) (Some bytes) None) (handed_files c ls))) (sym all)
+    (zip_file (client == c) bytes (offer_note h.offer) (handed_files c ls) (noted c rest) (note_of_file bytes h.offer h.of_bytes) (files_noted c ls rest those))
 files_noted c (asks client fact ∷ ls) es (front, rest, is, this, those) =
-    subst (AllZip IsNoteOfFile (files_of c ls)) (sym (noted_split c es front rest [] is (one_noted c front this.one (event.Ask client fact) this.are this.of_line.event))) (files_noted c ls rest those)
+    subst (AllZip IsNoteOfFile (handed_files c ls)) (sym (noted_split c es front rest [] is (one_noted c front this.one (event.Ask client fact) this.are this.of_line.event))) (files_noted c ls rest those)
 files_noted c (asks_status client number ∷ ls) es (front, rest, is, this, those) =
-    subst (AllZip IsNoteOfFile (files_of c ls)) (sym (noted_split c es front rest [] is (one_noted c front this.one (event.Status client number) this.are this.of_line.event))) (files_noted c ls rest those)
+    subst (AllZip IsNoteOfFile (handed_files c ls)) (sym (noted_split c es front rest [] is (one_noted c front this.one (event.Status client number) this.are this.of_line.event))) (files_noted c ls rest those)
 files_noted c (settles client ∷ ls) es (front, rest, is, this, those) =
-    subst (AllZip IsNoteOfFile (files_of c ls)) (sym (noted_split c es front rest [] is (none_noted c front (works_offer_none c client front this.works)))) (files_noted c ls rest those)
+    subst (AllZip IsNoteOfFile (handed_files c ls)) (sym (noted_split c es front rest [] is (none_noted c front (works_offer_none c client front this.works)))) (files_noted c ls rest those)
 
 -- ---- nothing is offered from the close on
 
@@ -143,6 +143,6 @@ own_texts c pass ls es end d k is closing good done works =
     let late : OffersInTime c d.entries =
     All-same (λ (e : Entry). offered_by c e.event ≡ None) (from_close d.entries) (entries_in (k ∷ end))
     (ap from_close entries ∙ from_the_close c es end k (ap is_close closing) (lines_own c ls es done)) (none_in c (k ∷ end) quiet) in
-    let notes : notes_in c d.entries ≡ noted c es =
-    ap (notes_in c) entries ∙ noted_split c (es ++ k ∷ end) es (k ∷ end) (noted c es) refl refl ∙ ap (λ (ns : List OfferNote). noted c es ++ ns) (none_noted c (k ∷ end) quiet) ∙ append-nil (noted c es) in
-    scripts_have_own_lines d good c ls late (subst (AllZip IsNoteOfFile (files_of c ls)) (sym notes) (files_noted c ls es done))
+    let notes : client_notes c d.entries ≡ noted c es =
+    ap (client_notes c) entries ∙ noted_split c (es ++ k ∷ end) es (k ∷ end) (noted c es) refl refl ∙ ap (λ (ns : List OfferNote). noted c es ++ ns) (none_noted c (k ∷ end) quiet) ∙ append-nil (noted c es) in
+    scripts_have_own_lines d good c ls late (subst (AllZip IsNoteOfFile (handed_files c ls)) (sym notes) (files_noted c ls es done))

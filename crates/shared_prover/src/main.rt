@@ -1,7 +1,7 @@
 // The program: its streams, its words and its exit status.
 #![tactic(auto)]
 
-use shared_prover_cli::{StdSink, StdSource, Status, exit_code, explanation, run_plain, words_of};
+use shared_prover_cli::{Status, StdSink, StdSource, exit_code, explanation, run_plain, words_of};
 use std::env;
 use std::io::ErrorKind;
 use std::process::ExitCode;

@@ -11,7 +11,9 @@ use row_checker::certify;
 use std::alloc::{AllocError, Global};
 use std::process::Abort;
 use std::test::Fail;
-use worked_vectors::files::{EMPTY, EMPTY_OF_5, EMPTY_OF_6, EMPTY_OF_7, EMPTY_OF_8, FIVE, HASH0, RANGE_7, TALL};
+use worked_vectors::files::{
+    EMPTY, EMPTY_OF_5, EMPTY_OF_6, EMPTY_OF_7, EMPTY_OF_8, FIVE, HASH0, RANGE_7, TALL,
+};
 
 fn task(alloc: Global, file: &str) -> Result<Checked, Fail> {
     Ok(admit(alloc, decode(alloc, file)?.as_slice())?)

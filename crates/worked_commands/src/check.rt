@@ -3,7 +3,10 @@ use hex::decode;
 use std::alloc::Global;
 use std::test::Fail;
 use std::thread::Threads;
-use worked_vectors::certificates::{BACK_CERTIFICATE, DOWN_3_CERTIFICATE, EMPTY_CERTIFICATE, FIVE_CERTIFICATE, HASH_CERTIFICATE, RANGE_CERTIFICATE, SILENT_CERTIFICATE, TALL_CERTIFICATE};
+use worked_vectors::certificates::{
+    BACK_CERTIFICATE, DOWN_3_CERTIFICATE, EMPTY_CERTIFICATE, FIVE_CERTIFICATE, HASH_CERTIFICATE,
+    RANGE_CERTIFICATE, SILENT_CERTIFICATE, TALL_CERTIFICATE,
+};
 use worked_vectors::files::{ADDR, BACK, DOWN_3, EMPTY, FIVE, HASH0, RANGE_7, TALL};
 
 // A certificate with other bytes at these places.

@@ -3,7 +3,10 @@ use hex::decode;
 use std::alloc::Global;
 use std::process::Abort;
 use std::test::Fail;
-use worked_vectors::files::{ADDR, BACK, DOWN_14, DOWN_3, EMPTY, FIVE, FIVE_MINUS_ONE, FIVE_WITH_5_STEPS, FIVE_WITH_7_STEPS, HASH0, HASH0_OVER, JUMP, PROD, RANGE_7, RANGE_MAX, RANGE_OVER, TALL, UNDER};
+use worked_vectors::files::{
+    ADDR, BACK, DOWN_3, DOWN_14, EMPTY, FIVE, FIVE_MINUS_ONE, FIVE_WITH_5_STEPS, FIVE_WITH_7_STEPS,
+    HASH0, HASH0_OVER, JUMP, PROD, RANGE_7, RANGE_MAX, RANGE_OVER, TALL, UNDER,
+};
 
 // The line is the answer, and the status says whether it is a refusal.
 fn expect_line(rt: &impl Abort, found: &(u8, Vec<u8>), line: &str) {

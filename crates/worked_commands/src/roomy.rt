@@ -1,8 +1,8 @@
 use crate::asking::answer;
 use hex::decode;
 use std::test::Fail;
-use worked_vectors::certificates::{ROOMY_CERTIFICATE};
-use worked_vectors::files::{ROOMY};
+use worked_vectors::certificates::ROOMY_CERTIFICATE;
+use worked_vectors::files::ROOMY;
 
 #[test]
 fn a_pie_with_all_rooms_goes_through_every_command(rt: HostRuntime) -> Result<(), Fail> {

@@ -1,11 +1,12 @@
 use crate::asking::asked;
-use shared_prover_cli::{MemSink, SureSource, run_plain};
 use hex::decode;
+use shared_prover_cli::{MemSink, SureSource, run_plain};
 use std::alloc::{AllocError, Global};
 use std::test::Fail;
 use worked_vectors::files::{EMPTY, FIVE, TALL};
 
 const EMPTY_HASH: &str = "4ae2a31bf9da6dec8e814ee65e6495560d58ecd3a1727ee49e5279ace5919187";
+
 const FIVE_HASH: &str = "644b2c86fee53a4ad40c21efa0e8524e34c75966cf12fcbfe5a3ae40d0a8bcbd";
 
 // So many lines that hand in this file.
@@ -43,15 +44,29 @@ fn three_runs_of_one_client_are_a_batch(rt: HostRuntime) -> Result<(), Fail> {
     let mut script = Vec::new(alloc);
     put_submits(alloc, &mut script, 0, EMPTY, 1)?;
     put_submits(alloc, &mut script, 0, FIVE, 2)?;
-    let text = format!(in alloc; "client 0 submit admitted 0 program {EMPTY_HASH} outputs\nclient 0 submit admitted 1 program {FIVE_HASH} outputs 5\nclient 0 submit admitted 2 program {FIVE_HASH} outputs 5\nbatch 0 steps 16 jobs 0.0 0.1 0.2\nfact {EMPTY_HASH} outputs\nfact {FIVE_HASH} outputs 5\nend\n")?;
+    let text = format!(in alloc;
+        "client 0 submit admitted 0 program {EMPTY_HASH} outputs\nclient 0 submit admitted 1 program {FIVE_HASH} outputs 5\nclient 0 submit admitted 2 program {FIVE_HASH} outputs 5\nbatch 0 steps 16 jobs 0.0 0.1 0.2\nfact {EMPTY_HASH} outputs\nfact {FIVE_HASH} outputs 5\nend\n"
+    )?;
     let found = asked(&rt, &["batch", "--clients", "1"], script.to_vec(alloc)?)?;
     assert_eq!(rt; (found.0, found.1.as_slice()), (0, text.as_bytes()));
-    let exported = asked(&rt, &["export", "--clients", "1", "--batch", "0"], script.to_vec(alloc)?)?;
+    let exported = asked(
+        &rt,
+        &["export", "--clients", "1", "--batch", "0"],
+        script.to_vec(alloc)?,
+    )?;
     assert_eq!(rt; exported.0, 0);
     let checked = asked(&rt, &["check"], exported.1)?;
-    assert!(rt; checked.1.as_slice().starts_with(b"accepted batch 364 outputs 3 9 1256366875 "));
+    assert!(rt;
+        checked
+            .1
+            .as_slice()
+            .starts_with(b"accepted batch 364 outputs 3 9 1256366875 ")
+    );
     let none = asked(&rt, &["export", "--clients", "1", "--batch", "1"], script)?;
-    assert_eq!(rt; (none.0, none.1.as_slice()), (1, b"refused batch 1 1\n".as_slice()));
+    assert_eq!(rt;
+        (none.0, none.1.as_slice()),
+        (1, b"refused batch 1 1\n".as_slice())
+    );
     Ok(())
 }
 
@@ -59,7 +74,8 @@ fn three_runs_of_one_client_are_a_batch(rt: HostRuntime) -> Result<(), Fail> {
 fn a_batch_has_sixteen_jobs_at_most(rt: HostRuntime) -> Result<(), Fail> {
     let alloc = rt.alloc();
     let shown = format!(in alloc; "{EMPTY_HASH} outputs")?;
-    let full = "batch 0 steps 64 jobs 0.0 0.1 0.2 0.3 0.4 0.5 0.6 0.7 0.8 0.9 0.10 0.11 0.12 0.13 0.14 0.15\n";
+    let full =
+        "batch 0 steps 64 jobs 0.0 0.1 0.2 0.3 0.4 0.5 0.6 0.7 0.8 0.9 0.10 0.11 0.12 0.13 0.14 0.15\n";
     for (jobs, more) in [(16, ""), (17, "batch 1 steps 4 jobs 0.16\n")] {
         let mut script = Vec::new(alloc);
         put_submits(alloc, &mut script, 0, EMPTY, jobs)?;
@@ -96,7 +112,9 @@ fn a_gap_behind_a_run_costs_no_step(rt: HostRuntime) -> Result<(), Fail> {
     let mut script = Vec::new(alloc);
     put_submits(alloc, &mut script, 0, TALL, 1)?;
     put_submits(alloc, &mut script, 0, FIVE, 1)?;
-    let end = format!(in alloc; "batch 0 steps 10 jobs 0.0 0.1\nfact {EMPTY_HASH} outputs\nfact {FIVE_HASH} outputs 5\nend\n")?;
+    let end = format!(in alloc;
+        "batch 0 steps 10 jobs 0.0 0.1\nfact {EMPTY_HASH} outputs\nfact {FIVE_HASH} outputs 5\nend\n"
+    )?;
     let found = asked(&rt, &["batch", "--clients=1"], script)?;
     assert_eq!(rt; found.0, 0);
     assert!(rt; found.1.as_slice().ends_with(end.as_bytes()));
@@ -105,13 +123,17 @@ fn a_gap_behind_a_run_costs_no_step(rt: HostRuntime) -> Result<(), Fail> {
 
 // Hands in a run, asks for its fact before and after it is registered, and where two jobs stand.
 fn questions(alloc: Global) -> Result<Vec<u8>, AllocError> {
-    let script = format!(in alloc; "submit 0 {FIVE}\nask 0 {FIVE_HASH} 5\nsettle 0\nask 0 {FIVE_HASH} 5\nstatus 0 0\nstatus 0 1\n")?;
+    let script = format!(in alloc;
+        "submit 0 {FIVE}\nask 0 {FIVE_HASH} 5\nsettle 0\nask 0 {FIVE_HASH} 5\nstatus 0 0\nstatus 0 1\n"
+    )?;
     script.as_bytes().to_vec(alloc)
 }
 
 // The transcript of these.
 fn answers(alloc: Global) -> Result<Vec<u8>, AllocError> {
-    let text = format!(in alloc; "client 0 submit admitted 0 program {FIVE_HASH} outputs 5\nclient 0 ask no\nclient 0 ask yes\nclient 0 status 0 registered\nclient 0 status 1 unknown\nbatch 0 steps 6 jobs 0.0\nfact {FIVE_HASH} outputs 5\nend\n")?;
+    let text = format!(in alloc;
+        "client 0 submit admitted 0 program {FIVE_HASH} outputs 5\nclient 0 ask no\nclient 0 ask yes\nclient 0 status 0 registered\nclient 0 status 1 unknown\nbatch 0 steps 6 jobs 0.0\nfact {FIVE_HASH} outputs 5\nend\n"
+    )?;
     text.as_bytes().to_vec(alloc)
 }
 
@@ -119,14 +141,21 @@ fn answers(alloc: Global) -> Result<Vec<u8>, AllocError> {
 fn questions_have_their_answers_and_bad_lines_are_named(rt: HostRuntime) -> Result<(), Fail> {
     let alloc = rt.alloc();
     let found = asked(&rt, &["batch", "--clients", "1"], questions(alloc)?)?;
-    assert_eq!(rt; (found.0, found.1.as_slice()), (0, answers(alloc)?.as_slice()));
+    assert_eq!(rt;
+        (found.0, found.1.as_slice()),
+        (0, answers(alloc)?.as_slice())
+    );
     for (script, status, text) in [
         (b"".as_slice(), 0, "end\n"),
         (b"submit 1 00\n", 3, "script 1 4\n"),
         (b"settle 0\nsettle 0", 3, "script 2 1\n"),
     ] {
         let line = asked(&rt, &["batch", "--clients", "1"], script.to_vec(alloc)?)?;
-        assert_eq!(rt; (line.0, line.1.as_slice()), (status, text.as_bytes()), "{text}");
+        assert_eq!(rt;
+            (line.0, line.1.as_slice()),
+            (status, text.as_bytes()),
+            "{text}"
+        );
     }
     Ok(())
 }

@@ -4,7 +4,7 @@ use shared_prover_cli::{
 };
 use std::alloc::{AllocError, Global};
 use std::test::Fail;
-use worked_vectors::files::{FIVE};
+use worked_vectors::files::FIVE;
 
 // What `replay` answers to the program that writes 5.
 const LINE: &[u8; 92] =

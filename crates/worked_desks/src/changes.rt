@@ -28,10 +28,15 @@ pub(crate) enum Change {
 
 // The kind, the last byte of the range span's stop, the number of marks, the mark and what stands behind it.
 const KIND: usize = 8;
+
 const RANGE_STOP: usize = 40;
+
 const MARKS: usize = 57;
+
 const MARK_ROW: usize = 64;
+
 const CELL_COUNT: usize = 125;
+
 const CELLS: usize = 129;
 
 /// The certificate with this change.
@@ -65,7 +70,13 @@ fn changed_bytes(
         Change::RangeStop => raised(alloc, bytes, RANGE_STOP),
         Change::RangeCell => {
             let at = value_of(cert, cert.range.start.value());
-            spliced(alloc, bytes, at, at.saturating_add(8), &[0, 0, 0, 1, 0, 0, 0, 0])
+            spliced(
+                alloc,
+                bytes,
+                at,
+                at.saturating_add(8),
+                &[0, 0, 0, 1, 0, 0, 0, 0],
+            )
         }
         Change::HashCell => {
             let at = value_of(cert, cert.hash.start.value().saturating_add(8));
@@ -81,7 +92,9 @@ fn changed_bytes(
 fn value_of(cert: &Cert, address: u64) -> usize {
     let cells = cert.cells.as_slice();
     let index = cells.iter().position(|(at, _)| at.value() == address);
-    CELLS.saturating_add(index.unwrap_or(0).saturating_mul(16)).saturating_add(8)
+    CELLS
+        .saturating_add(index.unwrap_or(0).saturating_mul(16))
+        .saturating_add(8)
 }
 
 // The bytes with others in this stretch.

@@ -9,7 +9,7 @@ use pie_replay::admit;
 use std::alloc::Global;
 use std::process::Abort;
 use std::test::Fail;
-use worked_vectors::files::{FIVE};
+use worked_vectors::files::FIVE;
 
 const FIVE_HASH: &str = "644b2c86fee53a4ad40c21efa0e8524e34c75966cf12fcbfe5a3ae40d0a8bcbd";
 

@@ -55,8 +55,28 @@ const ROWS: [(&str, Change, RunFault); 10] = [
     (RANGE_7, Change::RangeCell, RunFault::Range(0)),
     (FIVE, Change::HashCell, RunFault::Hash(0)),
     (FIVE, Change::FramePointer, RunFault::Row(0, RowCause::Next)),
-    (FIVE, Change::NoMarks, RunFault::Task(0, Place { segment: 6, offset: 0 })),
-    (FIVE, Change::MarkRow, RunFault::Task(0, Place { segment: 6, offset: 0 })),
+    (
+        FIVE,
+        Change::NoMarks,
+        RunFault::Task(
+            0,
+            Place {
+                segment: 6,
+                offset: 0,
+            },
+        ),
+    ),
+    (
+        FIVE,
+        Change::MarkRow,
+        RunFault::Task(
+            0,
+            Place {
+                segment: 6,
+                offset: 0,
+            },
+        ),
+    ),
 ];
 
 // Gives the bootloader's certificate of a parcel with one change.
@@ -80,7 +100,8 @@ fn a_dishonest_makers_batch_is_sealed_again(rt: HostRuntime) -> Result<(), Fail>
     for (file, change, wanted) in ROWS {
         let mut desk = desk_with(rt.alloc(), file)?;
         let maker = ChangingMaker { change };
-        let WorkEnd::Rejected(0, fault) = work_plain(&rt, rt.alloc(), &mut desk, WORKER, &maker) else {
+        let WorkEnd::Rejected(0, fault) = work_plain(&rt, rt.alloc(), &mut desk, WORKER, &maker)
+        else {
             assert!(rt; false, "not rejected");
             return Ok(());
         };

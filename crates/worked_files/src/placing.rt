@@ -6,7 +6,7 @@ use relocator::{alone, lone_cert, relocate};
 use std::alloc::{AllocError, Global};
 use std::process::Abort;
 use std::test::Fail;
-use worked_vectors::files::{FIVE};
+use worked_vectors::files::FIVE;
 
 // Its cells under the layout alone.
 const CELLS_ALONE: [(u64, u64); 18] = [
