@@ -1,7 +1,7 @@
 use batch_runner::{BootMaker, Maker};
 use boot_program::{Certified, Parcel};
 use cairo_model::{Checked, ReadRefusal, Refusal};
-use desk_core::{Desk, Event, Offer, OfferNote, Phase, RegisterEnd, Reply};
+use desk_core::{Desk, Event, JobPhase, Offer, OfferNote, Phase, RegisterEnd, Reply};
 use hex::decode;
 use pie_replay::admit;
 use row_checker::certify;
@@ -100,6 +100,20 @@ fn the_facts_of_a_registered_batch_stand(rt: HostRuntime) -> Result<(), Fail> {
     assert!(rt; matches!(end, RegisterEnd::Done));
     assert!(rt; desk.clients() > 0);
     assert_eq!(rt; desk.ask(alloc, 0, 0, five.fact())?, Reply::Yes);
+    Ok(())
+}
+
+#[test]
+fn it_is_told_where_a_job_stands(rt: HostRuntime) -> Result<(), Fail> {
+    let (mut desk, _) = desk_with_five(rt.alloc())?;
+    assert!(rt; desk.clients() > 0);
+    assert_eq!(rt; desk.status(0, 0, 0)?, Reply::IsAt(JobPhase::Taken));
+    assert!(rt; desk.clients() > 0);
+    assert_eq!(rt; desk.status(0, 0, 1)?, Reply::IsAt(JobPhase::Unknown));
+    assert_eq!(rt; desk.give_back(1, 0)?, Reply::Returned);
+    assert_eq!(rt; desk.phase_of(0, 0), JobPhase::Sealed);
+    assert_eq!(rt; desk.phase_of(0, 64), JobPhase::Unknown);
+    assert_eq!(rt; desk.phase_of(1, 0), JobPhase::Unknown);
     Ok(())
 }
 
