@@ -15,17 +15,17 @@ use Rattle.desk_core.specs.declared.reply.Reply.{Reply}
 use Rattle.desk_core.specs.declared.reply.Reply.TheVariants as reply
 use Rattle.desk_core.specs.Registrations.{IsLeastDifference, IsRegistering, pies_in}
 use Rattle.batch_workers.specs.declared.round.Round.TheVariants as round
-use Rattle.batch_workers.specs.Works.{IsIdle, pies_of_tasks}
-use Rattle.batch_workers.specs.Working.Rounds.{Holds, RegisterDone, remaining}
+use Rattle.batch_workers.specs.Works.{IsIdle}
+use Rattle.batch_workers.specs.Working.Rounds.{HoldsAlone, RegisterDone, remaining}
 use Rattle.batch_workers.proofs.Endings.{busy_from}
 use Rattle.batch_workers.proofs.Events.{one_event}
 use Rattle.batch_workers.proofs.Measures.{same_left}
 use Rattle.batch_workers.proofs.Returning.{own_batch}
 use Rattle.batch_workers.proofs.Taking.{idle_again, pies_of_batch}
 
-module _ (pass : ℕ) (old new : DeskRecord) (b : ℕ) (certified : CertifiedRecord) (h : Holds pass (plain_of old) b (pies_of_tasks certified.parcel.tasks)) where
+module _ (pass : ℕ) (old new : DeskRecord) (b : ℕ) (certified : CertifiedRecord) (h : HoldsAlone pass (plain_of old) b (pies_in certified.parcel.tasks)) where
   own : is_taken_by pass (phase_at (plain_of old) b) ≡ true
-  own = own_batch pass (plain_of old) b (pies_of_tasks certified.parcel.tasks) h
+  own = own_batch pass (plain_of old) b (pies_in certified.parcel.tasks) h
 
   same_pies : pies_in certified.parcel.tasks ≡ pies_in (tasks_at old b)
   same_pies = sym h.are ∙ sym (pies_of_batch old.jobs old.batches b)
@@ -52,7 +52,7 @@ module _ (pass : ℕ) (old new : DeskRecord) (b : ℕ) (certified : CertifiedRec
   went x = (
     busy_from pass old new (entry_of pass (event.Register b x.differs) no_pie reply.Registered) refl (one_event old new pass (event.Register b x.differs) reply.Registered refl x.turn),
     (
-      subst (IsIdle pass) (sym (becomes x)) (idle_again pass (plain_of old) b phase.Registered ((plain_of old).registered ++ b ∷ []) (pies_of_tasks certified.parcel.tasks) (λ q. cc) h),
+      subst (IsIdle pass) (sym (becomes x)) (idle_again pass (plain_of old) b phase.Registered ((plain_of old).registered ++ b ∷ []) (pies_in certified.parcel.tasks) (λ q. cc) h),
       ap remaining (becomes x) ∙ same_left (plain_of old) b phase.Registered ((plain_of old).registered ++ b ∷ []) refl (ap is_sealed h.taken),
     ),
   )

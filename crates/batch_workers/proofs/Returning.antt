@@ -13,9 +13,10 @@ use Rattle.desk_core.specs.declared.event.Event.TheVariants as event
 use Rattle.desk_core.specs.declared.phase.Phase.TheVariants as phase
 use Rattle.desk_core.specs.declared.reply.Reply.{Reply}
 use Rattle.desk_core.specs.declared.reply.Reply.TheVariants as reply
+use Rattle.desk_core.specs.Stays.{pies_at}
 use Rattle.desk_core.proofs.BatchLemmas.{phase_moved}
-use Rattle.batch_workers.specs.Works.{EndBusy, IsWorkOf, Works, is_nothing, pies_at}
-use Rattle.batch_workers.specs.Working.Rounds.{HandedBack, Holds}
+use Rattle.batch_workers.specs.Works.{EndBusy, IsWorkOf, Works, is_nothing}
+use Rattle.batch_workers.specs.Working.Rounds.{HandedBack, HoldsAlone}
 use Rattle.batch_workers.proofs.Endings.{busy_from, busy_then}
 use Rattle.batch_workers.proofs.Events.{one_event}
 use Rattle.batch_workers.proofs.Taking.{idle_again, pies_stay}
@@ -40,10 +41,10 @@ wanted pass old new is = subst (Works pass EndBusy old) (sym is) (turned_only pa
 
 -- ---- the batch is given back
 
-pub own_batch : (pass : ℕ) (d : PlainDesk) (b : ℕ) (pies : List PieRecord) → Holds pass d b pies → is_taken_by pass (phase_at d b) ≡ true
+pub own_batch : (pass : ℕ) (d : PlainDesk) (b : ℕ) (pies : List PieRecord) → HoldsAlone pass d b pies → is_taken_by pass (phase_at d b) ≡ true
 own_batch pass d b pies h = ap (is_taken_by pass) h.taken ∙ eq-eqb pass pass refl
 
-pub gave_back : (pass : ℕ) (old new : DeskRecord) (b : ℕ) (pies : List PieRecord) (r : Reply) → IsTurn old new pass (event.GiveBack b) no_pie r → Holds pass (plain_of old) b pies → HandedBack pass b pies old new true
+pub gave_back : (pass : ℕ) (old new : DeskRecord) (b : ℕ) (pies : List PieRecord) (r : Reply) → IsTurn old new pass (event.GiveBack b) no_pie r → HoldsAlone pass (plain_of old) b pies → HandedBack pass b pies old new true
 unfolding reply_to after_event
 gave_back pass old new b pies r turn h =
     let own = own_batch pass (plain_of old) b pies h in
@@ -67,8 +68,8 @@ pub back_then : (pass b : ℕ) (pies : List PieRecord) (a c e : DeskRecord) (t :
 back_then pass b pies a c e true x y = (busy_then pass a c e x.0 y.0, y.1)
 back_then pass b pies a c e false x y = (busy_then pass a c e x.0 y.0, y.1 ∙ x.1)
 
-pub then_back : (pass b : ℕ) (pies : List PieRecord) (a c e : DeskRecord) (t : Bool) → Holds pass (plain_of a) b pies → HandedBack pass b pies a c false → (Holds pass (plain_of c) b pies → HandedBack pass b pies c e t) → HandedBack pass b pies a e t
-then_back pass b pies a c e t h x next = back_then pass b pies a c e t x (next (subst (λ (d : PlainDesk). Holds pass d b pies) (sym x.1) h))
+pub then_back : (pass b : ℕ) (pies : List PieRecord) (a c e : DeskRecord) (t : Bool) → HoldsAlone pass (plain_of a) b pies → HandedBack pass b pies a c false → (HoldsAlone pass (plain_of c) b pies → HandedBack pass b pies c e t) → HandedBack pass b pies a e t
+then_back pass b pies a c e t h x next = back_then pass b pies a c e t x (next (subst (λ (d : PlainDesk). HoldsAlone pass d b pies) (sym x.1) h))
 
 pub back_works : (pass b : ℕ) (pies : List PieRecord) (old new : DeskRecord) (t : Bool) → HandedBack pass b pies old new t → Works pass EndBusy old new
 back_works pass b pies old new true x = x.0

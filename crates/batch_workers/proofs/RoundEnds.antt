@@ -15,12 +15,14 @@ use Rattle.desk_core.specs.Journals.{no_pie}
 use Rattle.desk_core.specs.Turns.{entry_of}
 use Rattle.desk_core.specs.declared.event.Event.TheVariants as event
 use Rattle.desk_core.specs.declared.reply.Reply.TheVariants as reply
+use Rattle.desk_core.specs.Registrations.{pies_in}
+use Rattle.desk_core.specs.Stays.{pies_at}
 use Rattle.batch_workers.specs.declared.round.Round.{Round}
 use Rattle.batch_workers.specs.declared.round.Round.TheVariants as round
 use Rattle.batch_workers.specs.declared.work_end.WorkEnd.{WorkEnd}
 use Rattle.batch_workers.specs.declared.work_end.WorkEnd.TheVariants as work
-use Rattle.batch_workers.specs.Works.{EndBusy, IsFaulty, IsNotRejected, IsRejected, WorkDone, Works, WorksAlone, pies_at, pies_of_tasks}
-use Rattle.batch_workers.specs.Working.Rounds.{BatchDone, HandedBack, Holds, NotCertified, RegisterDone, RoundDone, SealDone, rejecting_round, remaining}
+use Rattle.batch_workers.specs.Works.{EndBusy, IsFaulty, IsNotRejected, IsRejected, WorkDone, Works, WorksAlone}
+use Rattle.batch_workers.specs.Working.Rounds.{BatchDone, HandedBack, HoldsAlone, NotCertified, RegisterDone, RoundDone, SealDone, rejecting_round, remaining}
 use Rattle.batch_workers.proofs.Returning.{back_works, wanted}
 use Rattle.batch_workers.proofs.Endings.{busy_from, busy_then, idle_from, idle_then, two_then}
 use Rattle.batch_workers.proofs.TakeRounds.{TookBatch, TookNone}
@@ -28,10 +30,10 @@ use Rattle.batch_workers.proofs.TakeRounds.{TookBatch, TookNone}
 -- ---- a batch in hand that isn't registered
 
 -- memory was wanted, and the batch was given back or not
-pub stopped : (pass b : ℕ) (pies : List PieRecord) (a c e : DeskRecord) (t : Bool) → Holds pass (plain_of a) b pies → c ≡ turned a
-    → ((ps : List PieRecord) → Holds pass (plain_of c) b ps → HandedBack pass b ps c e t) → Works pass EndBusy a e
+pub stopped : (pass b : ℕ) (pies : List PieRecord) (a c e : DeskRecord) (t : Bool) → HoldsAlone pass (plain_of a) b pies → c ≡ turned a
+    → ((ps : List PieRecord) → HoldsAlone pass (plain_of c) b ps → HandedBack pass b ps c e t) → Works pass EndBusy a e
 stopped pass b pies a c e t h is back =
-    busy_then pass a c e (wanted pass a c is) (back_works pass b pies c e t (back pies (subst (λ (d : DeskRecord). Holds pass (plain_of d) b pies) (sym is) h)))
+    busy_then pass a c e (wanted pass a c is) (back_works pass b pies c e t (back pies (subst (λ (d : DeskRecord). HoldsAlone pass (plain_of d) b pies) (sym is) h)))
 
 pub done_as : (pass : ℕ) (a e d : DeskRecord) (o q : Round) → d ≡ e → o ≡ q → RegisterDone pass a e q → RegisterDone pass a d o
 done_as pass a e d o q d_is o_is x = subst (λ (z : Round). RegisterDone pass a d z) (sym o_is) (subst (λ (z : DeskRecord). RegisterDone pass a z q) (sym d_is) x)
@@ -47,28 +49,28 @@ pub refused_as : (pass b : ℕ) (pies : List PieRecord) (a e : DeskRecord) (n m 
 refused_as pass b pies a e n m o is x = subst (λ (z : End RunFault). NotCertified pass b pies z a e o) (sym is) x
 
 -- the batch of this parcel
-module _ (pass : ℕ) (H : Type 0) (G : ParcelRecord → CertRecord → Type 0) (v p : ParcelRecord) (same : v ≡ p) (a e : DeskRecord) (held : Holds pass (plain_of a) p.batch (pies_of_tasks p.tasks)) where
-  pub holds_seen : Holds pass (plain_of a) v.batch (pies_of_tasks v.tasks)
-  holds_seen = subst (λ (m : ParcelRecord). Holds pass (plain_of a) m.batch (pies_of_tasks m.tasks)) (sym same) held
+module _ (pass : ℕ) (H : Type 0) (G : ParcelRecord → CertRecord → Type 0) (v p : ParcelRecord) (same : v ≡ p) (a e : DeskRecord) (held : HoldsAlone pass (plain_of a) p.batch (pies_in p.tasks)) where
+  pub holds_seen : HoldsAlone pass (plain_of a) v.batch (pies_in v.tasks)
+  holds_seen = subst (λ (m : ParcelRecord). HoldsAlone pass (plain_of a) m.batch (pies_in m.tasks)) (sym same) held
 
-  rejects : (b : ℕ) (fault : RunFault) → b ≡ v.batch → HandedBack pass v.batch (pies_of_tasks v.tasks) a e true → IsFaulty H G v fault → IsRejected H G (plain_of e) b fault
+  rejects : (b : ℕ) (fault : RunFault) → b ≡ v.batch → HandedBack pass v.batch (pies_in v.tasks) a e true → IsFaulty H G v fault → IsRejected H G (plain_of e) b fault
   rejects b fault is x faulty = record {
     parcel = v;
     number = sym is;
-    pies = subst (λ (k : ℕ). pies_of_tasks v.tasks ≡ pies_at (plain_of e) k) (sym is) (sym x.1.1.1);
+    pies = subst (λ (k : ℕ). pies_in v.tasks ≡ pies_at (plain_of e) k) (sym is) (sym x.1.1.1);
     faulty = faulty;
     sealed = subst (λ (k : ℕ). phase_at (plain_of e) k ≡ phase.Sealed) (sym is) x.1.1.0;
   }
 
-  by_end : (n : End RunFault) (o : Round) → NotCertified pass v.batch (pies_of_tasks v.tasks) n a e o → ((fault : RunFault) → n ≡ end.Refused fault → IsFaulty H G v fault) → BatchDone pass H G a e o
+  by_end : (n : End RunFault) (o : Round) → NotCertified pass v.batch (pies_in v.tasks) n a e o → ((fault : RunFault) → n ≡ end.Refused fault → IsFaulty H G v fault) → BatchDone pass H G a e o
   by_end n round.Went x f = absurd x
   by_end n round.Idle x f = x
   by_end n (round.Ended work.Drained) x f = x
   by_end n (round.Ended work.OutOfMemory) x f = x
   by_end n (round.Ended (work.Rejected b fault)) x f = (x.0.0, (x.0.1.0, rejects b fault x.1.0 x.0 (f fault x.1.1)))
 
-  pub uncertified : (n : End RunFault) (o : Round) → ((pies : List PieRecord) → Holds pass (plain_of a) v.batch pies → NotCertified pass v.batch pies n a e o) → ((fault : RunFault) → n ≡ end.Refused fault → IsFaulty H G p fault) → BatchDone pass H G a e o
-  uncertified n o x f = by_end n o (x (pies_of_tasks v.tasks) holds_seen) (λ fault is. subst (λ (m : ParcelRecord). IsFaulty H G m fault) (sym same) (f fault is))
+  pub uncertified : (n : End RunFault) (o : Round) → ((pies : List PieRecord) → HoldsAlone pass (plain_of a) v.batch pies → NotCertified pass v.batch pies n a e o) → ((fault : RunFault) → n ≡ end.Refused fault → IsFaulty H G p fault) → BatchDone pass H G a e o
+  uncertified n o x f = by_end n o (x (pies_in v.tasks) holds_seen) (λ fault is. subst (λ (m : ParcelRecord). IsFaulty H G m fault) (sym same) (f fault is))
 
 -- ---- rounds
 

@@ -11,9 +11,10 @@ use Rattle.desk_core.specs.declared.event.Event.TheVariants as event
 use Rattle.desk_core.specs.declared.phase.Phase.TheVariants as phase
 use Rattle.desk_core.specs.declared.reply.Reply.{Reply}
 use Rattle.desk_core.specs.declared.reply.Reply.TheVariants as reply
+use Rattle.desk_core.specs.Registrations.{pies_in}
 use Rattle.desk_core.proofs.SoundSteps.{first_is_sealed}
-use Rattle.batch_workers.specs.Works.{EndBusy, IsIdle, Works, is_nothing, pies_of_tasks}
-use Rattle.batch_workers.specs.Working.Rounds.{Are, Holds, remaining}
+use Rattle.batch_workers.specs.Works.{EndBusy, IsIdle, Works, is_nothing}
+use Rattle.batch_workers.specs.Working.Rounds.{Are, HoldsAlone, remaining}
 use Rattle.batch_workers.proofs.Endings.{busy_from}
 use Rattle.batch_workers.proofs.Events.{one_event}
 use Rattle.batch_workers.proofs.Measures.{less_taken}
@@ -21,7 +22,7 @@ use Rattle.batch_workers.proofs.Taking.{holds_taken, pies_of_batch}
 
 pub record TookBatch (pass : ℕ) (old new : DeskRecord) (parcel : ParcelRecord) : Type 0 where
   pub works : Works pass EndBusy old new
-  pub holds : Holds pass (plain_of new) parcel.batch (pies_of_tasks parcel.tasks)
+  pub holds : HoldsAlone pass (plain_of new) parcel.batch (pies_in parcel.tasks)
   pub less : remaining (plain_of new) < remaining (plain_of old)
 
 pub record TookNone (pass : ℕ) (old new : DeskRecord) : Type 0 where
@@ -39,8 +40,8 @@ module _ (pass : ℕ) (old new : DeskRecord) (r : Reply) (idle : IsIdle pass (pl
       let sealed = first_is_sealed (plain_of old) b is in
       record {
         works = busy_from pass old new (entry_of pass event.Take no_pie r) (ap is_nothing r_is) (one_event old new pass event.Take r refl turn);
-        holds = subst (λ (x : PlainDesk). Holds pass x b (pies_of_tasks (tasks_at old b))) (sym moved)
-            (subst (Holds pass (with_taken pass (plain_of old) b) b) (sym (pies_of_batch old.jobs old.batches b)) (holds_taken pass (plain_of old) b (plain_of old).registered idle sealed));
+        holds = subst (λ (x : PlainDesk). HoldsAlone pass x b (pies_in (tasks_at old b))) (sym moved)
+            (subst (HoldsAlone pass (with_taken pass (plain_of old) b) b) (sym (pies_of_batch old.jobs old.batches b)) (holds_taken pass (plain_of old) b (plain_of old).registered idle sealed));
         less = subst (λ (x : PlainDesk). remaining x < remaining (plain_of old)) (sym moved) (less_taken (plain_of old) b (phase.Taken pass) (plain_of old).registered refl sealed);
       }
 

@@ -11,9 +11,11 @@ use Rattle.desk_core.specs.declared.batch.Batch.{Batch}
 use Rattle.desk_core.specs.declared.job.Job.{Job}
 use Rattle.desk_core.specs.declared.phase.Phase.{Phase}
 use Rattle.desk_core.specs.declared.phase.Phase.TheVariants as phase
+use Rattle.desk_core.specs.Registrations.{pies_in}
+use Rattle.desk_core.specs.Stays.{pies_at}
 use Rattle.desk_core.proofs.BatchLemmas.{phase_in, phase_moved, phase_other}
-use Rattle.batch_workers.specs.Works.{IsIdle, pies_at, pies_of_tasks}
-use Rattle.batch_workers.specs.Working.Rounds.{Holds}
+use Rattle.batch_workers.specs.Works.{IsIdle}
+use Rattle.batch_workers.specs.Working.Rounds.{HoldsAlone}
 
 -- ---- the PIEs of a batch
 
@@ -24,14 +26,14 @@ pies_stay js (x ∷ bs) zero (suc k) p = refl
 pies_stay js (x ∷ bs) (suc b) zero p = refl
 pies_stay js (x ∷ bs) (suc b) (suc k) p = pies_stay js bs b k p
 
-pies_of_jobs : (js : List Job) → map (λ (j : PlainJob). j.pie) (map plain_job js) ≡ pies_of_tasks (map (λ (j : Job). j.checked) js)
+pies_of_jobs : (js : List Job) → map (λ (j : PlainJob). j.pie) (map plain_job js) ≡ pies_in (map (λ (j : Job). j.checked) js)
 pies_of_jobs [] = refl
 pies_of_jobs (j ∷ js) = ap (λ (ps : List PieRecord). j.checked.pie ∷ ps) (pies_of_jobs js)
 
 stretched : (js : List Job) (b : Batch) → jobs_in (map plain_job js) (plain_batch b) ≡ map plain_job (take b.count (drop b.first js))
 stretched js b = ap (take b.count) (drop-map plain_job b.first js) ∙ take-map plain_job b.count (drop b.first js)
 
-pub pies_of_batch : (js : List Job) (bs : List Batch) (b : ℕ) → pies_of_tasks (option_map_or (tasks_in js) (slice_get bs b) []) ≡ map (λ (j : PlainJob). j.pie) (option_map_or (jobs_in (map plain_job js)) (slice_get (map plain_batch bs) b) [])
+pub pies_of_batch : (js : List Job) (bs : List Batch) (b : ℕ) → pies_in (option_map_or (tasks_in js) (slice_get bs b) []) ≡ map (λ (j : PlainJob). j.pie) (option_map_or (jobs_in (map plain_job js)) (slice_get (map plain_batch bs) b) [])
 pies_of_batch js [] b = refl
 pies_of_batch js (x ∷ bs) zero = sym (ap (map (λ (j : PlainJob). j.pie)) (stretched js x) ∙ pies_of_jobs (take x.count (drop x.first js)))
 pies_of_batch js (x ∷ bs) (suc b) = pies_of_batch js bs b
@@ -39,7 +41,7 @@ pies_of_batch js (x ∷ bs) (suc b) = pies_of_batch js bs b
 -- ---- the batch in hand
 
 pub holds_taken : (pass : ℕ) (d : PlainDesk) (b : ℕ) (registered : List ℕ) → IsIdle pass d → phase_at d b ≡ phase.Sealed
-    → Holds pass (record d { batches = set_phase d.batches b (phase.Taken pass); registered = registered }) b (pies_at d b)
+    → HoldsAlone pass (record d { batches = set_phase d.batches b (phase.Taken pass); registered = registered }) b (pies_at d b)
 holds_taken pass d b registered idle was = record {
   taken = phase_moved d.batches b (phase.Taken pass) (λ e. cc);
   alone = λ k ne e. idle k (sym (phase_other d.batches b k (phase.Taken pass) ne) ∙ e);
@@ -47,7 +49,7 @@ holds_taken pass d b registered idle was = record {
 }
 
 -- the pass is idle again where its batch gets another phase
-pub idle_again : (pass : ℕ) (d : PlainDesk) (b : ℕ) (p : Phase) (registered : List ℕ) (pies : List PieRecord) → p ≢ phase.Taken pass → Holds pass d b pies
+pub idle_again : (pass : ℕ) (d : PlainDesk) (b : ℕ) (p : Phase) (registered : List ℕ) (pies : List PieRecord) → p ≢ phase.Taken pass → HoldsAlone pass d b pies
     → IsIdle pass (record d { batches = set_phase d.batches b p; registered = registered })
 idle_again pass d b p registered pies other h k e = go (k == b) refl where
   go : (t : Bool) → (k == b) ≡ t → ⊥

@@ -1,14 +1,12 @@
 -- What a worker does at a desk of its own, and how it ends (docs/SERVICE.md).
-use Rattle.std.specs.Prelude.{ℕ, ◌≡◌, ◌≢◌, ◌<◌, Bool, true, false, List, [], ◌∷◌, ◌++◌, All, length, map}
+use Rattle.std.specs.Prelude.{ℕ, ◌≡◌, ◌≢◌, ◌<◌, Bool, true, false, List, [], ◌∷◌, ◌++◌, All, length}
 use Rattle.cairo_model.specs.Certificate.Records.{CertRecord}
-use Rattle.cairo_model.specs.Pie.Acceptance.{CheckedRecord}
-use Rattle.cairo_model.specs.Pie.Records.{PieRecord}
 use Rattle.boot_program.specs.Batch.Parcels.{ParcelRecord}
 use Rattle.boot_program.specs.Faults.Causes.{IsFirstBatchFault}
 use Rattle.boot_program.specs.Faults.Records.{fault_cause}
 use Rattle.boot_program.specs.declared.run_fault.RunFault.{RunFault}
 use Rattle.desk_core.specs.DeskRecords.{DeskRecord, journal_of, plain_of}
-use Rattle.desk_core.specs.Desks.{PlainDesk, jobs_at, phase_at, phase_of_job}
+use Rattle.desk_core.specs.Desks.{PlainDesk, phase_at, phase_of_job}
 use Rattle.desk_core.specs.Journals.{no_pie}
 use Rattle.desk_core.specs.Turns.{entry_of}
 use Rattle.desk_core.specs.declared.entry.FullEntry.{FullEntry}
@@ -18,6 +16,8 @@ use Rattle.desk_core.specs.declared.phase.JobPhase.TheVariants as at
 use Rattle.desk_core.specs.declared.phase.Phase.TheVariants as phase
 use Rattle.desk_core.specs.declared.reply.Reply.{Reply}
 use Rattle.desk_core.specs.declared.reply.Reply.TheVariants as reply
+use Rattle.desk_core.specs.Registrations.{pies_in}
+use Rattle.desk_core.specs.Stays.{pies_at}
 use Rattle.batch_workers.specs.declared.work_end.WorkEnd.{WorkEnd}
 use Rattle.batch_workers.specs.declared.work_end.WorkEnd.TheVariants as work
 
@@ -44,11 +44,15 @@ abbrev pub is_nothing : Reply → Bool
 is_nothing (reply.NothingWaiting closed) = true
 is_nothing r = false
 
--- whether the last of these entries was replied that no job waits
+-- whether the reply to the last of these entries passes the test
+abbrev pub ends_with : (Reply → Bool) → List FullEntry → Bool
+ends_with test [] = false
+ends_with test (e ∷ []) = test e.entry.reply
+ends_with test (e ∷ f ∷ es) = ends_with test (f ∷ es)
+
+-- whether it is that no job waits
 abbrev pub ends_idle : List FullEntry → Bool
-ends_idle [] = false
-ends_idle (e ∷ []) = is_nothing e.entry.reply
-ends_idle (e ∷ f ∷ es) = ends_idle (f ∷ es)
+ends_idle es = ends_with is_nothing es
 
 -- the two turns in which a worker finds nothing to do: no batch is sealed, and then no job waits
 abbrev pub idle_turns : ℕ → Bool → List FullEntry
@@ -99,18 +103,11 @@ pub record IsFaulty (Honest : Type 0) (Gives : ParcelRecord → CertRecord → T
   pub fails : IsFirstBatchFault cert parcel.tasks (fault_cause fault)
   pub not_honest : Honest → ⊥
 
-abbrev pub pies_of_tasks : List CheckedRecord → List PieRecord
-pies_of_tasks tasks = map (λ t. t.pie) tasks
-
--- the PIEs of the batch of this number
-abbrev pub pies_at : PlainDesk → ℕ → List PieRecord
-pies_at d b = map (λ j. j.pie) (jobs_at d b)
-
 -- The batch of this number was given back: it stands sealed, and a parcel of its PIEs got a faulty certificate.
 pub record IsRejected (Honest : Type 0) (Gives : ParcelRecord → CertRecord → Type 0) (d : PlainDesk) (b : ℕ) (fault : RunFault) : Type 0 where
   pub parcel : ParcelRecord
   pub number : parcel.batch ≡ b
-  pub pies : pies_of_tasks parcel.tasks ≡ pies_at d b
+  pub pies : pies_in parcel.tasks ≡ pies_at d b
   pub faulty : IsFaulty Honest Gives parcel fault
   pub sealed : phase_at d b ≡ phase.Sealed
 

@@ -3,8 +3,10 @@ ghost use Rattle.cairo_model.specs.Pie.Records.{PieRecord};
 ghost use Rattle.desk_core.specs.DeskRecords.{plain_of};
 ghost use Rattle.desk_core.specs.Desks.{first_sealed};
 ghost use Rattle.desk_core.specs.GoodDesks.{IsGoodDesk};
-ghost use Rattle.batch_workers.specs.Works.{IsFaulty, IsIdle, IsNotRejected, WorkDone, is_nothing as nothing_waits, pies_of_tasks};
-ghost use Rattle.batch_workers.specs.Working.Rounds.{BatchDone, HandedBack, Holds, NotCertified, RegisterDone, RoundDone, SealDone, StillGood, rejecting_round, sealing_round};
+ghost use Rattle.desk_core.specs.Registrations.{pies_in};
+ghost use Rattle.session_desk.specs.PassTurns.{StillGood};
+ghost use Rattle.batch_workers.specs.Works.{IsFaulty, IsIdle, IsNotRejected, WorkDone, is_nothing as nothing_waits};
+ghost use Rattle.batch_workers.specs.Working.Rounds.{BatchDone, HandedBack, HoldsAlone, NotCertified, RegisterDone, RoundDone, SealDone, rejecting_round, sealing_round};
 
 use crate::round::Round;
 use crate::work_end::WorkEnd;
@@ -20,7 +22,7 @@ use std::thread::Threads;
 const CHUNKS: usize = 8;
 
 /// How often it is tried again to give a batch back, where memory is wanted.
-const MOST_RETRIES: u32 = 64;
+pub(crate) const MOST_RETRIES: u32 = 64;
 
 /// Takes, makes, certifies and registers batches, and seals what waits, until no batch is sealed and no job waits
 /// (docs/SERVICE.md). A batch whose certificate finds no memory is given back, and so is one whose certificate has a fault.
@@ -97,7 +99,7 @@ fn run_batch<R: Threads + Sync, M: Maker>(
     maker: &M,
     parcel: Parcel,
 ) -> Round
-    requires holds { Holds pass (plain_of desk.old) parcel.batch (pies_of_tasks parcel.tasks) }
+    requires holds { HoldsAlone pass (plain_of desk.old) parcel.batch (pies_in parcel.tasks) }
     ensures done { BatchDone pass (M.honest maker.now) (M.gives maker.now) desk.old desk.new result }
     ensures good { StillGood desk.old desk.new }
 {
@@ -110,7 +112,7 @@ fn run_batch<R: Threads + Sync, M: Maker>(
 
 // Gives the batch back that got no certificate.
 fn not_certified(desk: &mut Desk, pass: u32, batch: u32, end: End<RunFault>) -> Round
-    ensures done { (pies : List PieRecord) → Holds pass (plain_of desk.old) batch pies → NotCertified pass batch pies end desk.old desk.new result }
+    ensures done { (pies : List PieRecord) → HoldsAlone pass (plain_of desk.old) batch pies → NotCertified pass batch pies end desk.old desk.new result }
     ensures good { StillGood desk.old desk.new }
 {
     let back = handed_back(desk, pass, batch);
@@ -132,7 +134,7 @@ fn rejected(back: bool, batch: u32, fault: RunFault) -> Round
 }
 
 // The parcel with its maker's certificate, checked.
-fn certified<R: Threads + Sync, M: Maker>(
+pub(crate) fn certified<R: Threads + Sync, M: Maker>(
     rt: &R,
     alloc: Global,
     maker: &M,
@@ -150,7 +152,7 @@ fn certified<R: Threads + Sync, M: Maker>(
 
 // Registers the batch in hand.
 fn registered(alloc: Global, desk: &mut Desk, pass: u32, batch: u32, certified: Certified) -> Round
-    requires holds { Holds pass (plain_of desk.old) batch (pies_of_tasks certified.parcel.tasks) }
+    requires holds { HoldsAlone pass (plain_of desk.old) batch (pies_in certified.parcel.tasks) }
     ensures done { RegisterDone pass desk.old desk.new result }
     ensures good { StillGood desk.old desk.new }
 {
@@ -167,7 +169,7 @@ fn registered(alloc: Global, desk: &mut Desk, pass: u32, batch: u32, certified: 
 
 // Whether the batch was given back. Where memory is wanted it is tried again.
 fn handed_back(desk: &mut Desk, pass: u32, batch: u32) -> bool
-    ensures back { (pies : List PieRecord) → Holds pass (plain_of desk.old) batch pies → HandedBack pass batch pies desk.old desk.new result }
+    ensures back { (pies : List PieRecord) → HoldsAlone pass (plain_of desk.old) batch pies → HandedBack pass batch pies desk.old desk.new result }
     ensures good { StillGood desk.old desk.new }
 {
     match desk.give_back(pass, batch) {
@@ -178,7 +180,7 @@ fn handed_back(desk: &mut Desk, pass: u32, batch: u32) -> bool
 
 fn handed_back_again(desk: &mut Desk, pass: u32, batch: u32) -> bool
     requires good { IsGoodDesk desk.old }
-    ensures back { (pies : List PieRecord) → Holds pass (plain_of desk.old) batch pies → HandedBack pass batch pies desk.old desk.new result }
+    ensures back { (pies : List PieRecord) → HoldsAlone pass (plain_of desk.old) batch pies → HandedBack pass batch pies desk.old desk.new result }
     ensures good { IsGoodDesk desk.new }
 {
     for _ in 0..MOST_RETRIES {

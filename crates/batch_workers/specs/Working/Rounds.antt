@@ -8,14 +8,14 @@ use Rattle.cairo_model.specs.declared.end.End.{End}
 use Rattle.cairo_model.specs.declared.end.End.TheVariants as end
 use Rattle.desk_core.specs.DeskRecords.{DeskRecord, plain_of}
 use Rattle.desk_core.specs.Desks.{PlainBatch, PlainDesk, is_sealed, phase_at, waiting_jobs}
-use Rattle.desk_core.specs.GoodDesks.{IsGoodDesk}
 use Rattle.desk_core.specs.Journals.{no_pie}
 use Rattle.desk_core.specs.Turns.{entry_of}
 use Rattle.desk_core.specs.declared.entry.FullEntry.{FullEntry}
 use Rattle.desk_core.specs.declared.event.Event.TheVariants as event
 use Rattle.desk_core.specs.declared.phase.Phase.TheVariants as phase
 use Rattle.desk_core.specs.declared.reply.Reply.TheVariants as reply
-use Rattle.batch_workers.specs.Works.{AllRegistered, EndBusy, IsIdle, IsRejected, Works, WorksAlone, idle_turns, pies_at}
+use Rattle.desk_core.specs.Stays.{pies_at}
+use Rattle.batch_workers.specs.Works.{AllRegistered, EndBusy, IsIdle, IsRejected, Works, WorksAlone, idle_turns}
 use Rattle.batch_workers.specs.declared.round.Round.{Round}
 use Rattle.batch_workers.specs.declared.round.Round.TheVariants as round
 use Rattle.batch_workers.specs.declared.work_end.WorkEnd.TheVariants as work
@@ -32,13 +32,10 @@ remaining d = 2 * length (waiting_jobs d) + sealed_count d.batches
 -- ---- the pass
 
 -- this batch alone is in hand, and has these PIEs
-pub record Holds (pass : ℕ) (d : PlainDesk) (b : ℕ) (pies : List PieRecord) : Type 0 where
+pub record HoldsAlone (pass : ℕ) (d : PlainDesk) (b : ℕ) (pies : List PieRecord) : Type 0 where
   pub taken : phase_at d b ≡ phase.Taken pass
   pub alone : (k : ℕ) → k ≢ b → phase_at d k ≢ phase.Taken pass
   pub are : pies_at d b ≡ pies
-
-abbrev pub StillGood : DeskRecord → DeskRecord → Type 0
-StillGood old new = IsGoodDesk old × IsGoodDesk new
 
 -- the entries are just these
 abbrev pub Are : List FullEntry → List FullEntry → Type 0

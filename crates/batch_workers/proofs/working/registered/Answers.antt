@@ -1,10 +1,10 @@
 use Rattle.batch_workers.proofs.Handing.{never_not_taken, never_stranger, went}
 use Rattle.batch_workers.proofs.RoundEnds.{done_as, good_as, stopped}
-use Rattle.batch_workers.specs.Works.{pies_of_tasks}
 use Rattle.batch_workers.specs.declared.round.Round.TheVariants as round
 use Rattle.batch_workers.specs.declared.work_end.WorkEnd.TheVariants as work
 use Rattle.batch_workers.proofs.working.registered.Goals.{in-Done, in-OutOfMemory}
 use Rattle.batch_workers.proofs.working.registered.Goals as goal
+use Rattle.desk_core.specs.Registrations.{pies_in}
 
 pub unreachable-requires : goal.unreachable-requires
 unreachable-requires c = never_not_taken c.args.pass c.args.desk.now c.register.new.self c.args.batch c.args.certified c.requires.holds c.in-NotTaken.field-0 c.in-NotTaken.ensures.end.0
@@ -20,7 +20,7 @@ returns-clause-done c =
           (went c.args.pass c.args.desk.now c.register.new.self c.args.batch c.args.certified c.requires.holds w.in-Done.ensures.end.0)
       | in-OutOfMemory w ↦
           done_as c.args.pass c.args.desk.now w.handed_back.new.desk c.match-register.desk c.match-register.result (round.Ended work.OutOfMemory) w.desk-is w.result-is
-          (stopped c.args.pass c.args.batch (pies_of_tasks c.args.certified.parcel.tasks) c.args.desk.now c.register.new.self w.handed_back.new.desk w.handed_back.result c.requires.holds w.in-OutOfMemory.ensures.end.0 w.handed_back.ensures.back)
+          (stopped c.args.pass c.args.batch (pies_in c.args.certified.parcel.tasks) c.args.desk.now c.register.new.self w.handed_back.new.desk w.handed_back.result c.requires.holds w.in-OutOfMemory.ensures.end.0 w.handed_back.ensures.back)
     ]
 
 pub returns-clause-good : goal.returns-clause-good
