@@ -1,12 +1,11 @@
 -- What each turn of a worker's pass leaves: its entries, the batch in hand, and what it has seen of that batch.
-use Rattle.std.proofs.Common.{◌≡◌, ◌≢◌, ◌⊎◌, inl, inr, ℕ, ◌==◌, Bool, true, false, cond, List, [], ◌∷◌, ◌++◌, map, refl, sym, ap, ap₂, ◌∙◌, subst}
-use Rattle.std.specs.Prelude.{All, Option, Some, None}
+use Rattle.std.proofs.Common.{◌≡◌, ◌≢◌, ℕ, ◌==◌, Bool, true, false, cond, List, [], ◌∷◌, ◌++◌, map, refl, sym, ap, ◌∙◌, subst}
+use Rattle.std.specs.Prelude.{All, Option}
 use Rattle.std.proofs.lemmas.Bool.{eqb-true, eq-eqb}
 use Rattle.std.proofs.lemmas.List.{append-nil, append_assoc, map-append}
 use Rattle.std.proofs.lemmas.List.Elements.{All-append, All-cons, All-nil}
 use Rattle.cairo_model.specs.Pie.Records.{PieRecord}
-use Rattle.desk_core.specs.DeskRecords.{DeskRecord, journal_of, plain_of}
-use Rattle.desk_core.specs.Desks.{phase_at}
+use Rattle.desk_core.specs.DeskRecords.{DeskRecord, journal_of}
 use Rattle.desk_core.specs.Hands.{entries_of_pass, in_hand, in_hand_after}
 use Rattle.desk_core.specs.Journals.{no_pie}
 use Rattle.desk_core.specs.Stays.{Holds, desk_seen, pies_at}
@@ -14,7 +13,6 @@ use Rattle.desk_core.specs.Turns.{IsTurn, entry_of, turned}
 use Rattle.desk_core.specs.declared.entry.FullEntry.{FullEntry}
 use Rattle.desk_core.specs.declared.event.Event.{Event}
 use Rattle.desk_core.specs.declared.event.Event.TheVariants as event
-use Rattle.desk_core.specs.declared.phase.Phase.TheVariants as phase
 use Rattle.desk_core.specs.declared.reply.Reply.{Reply}
 use Rattle.desk_core.specs.declared.reply.Reply.TheVariants as reply
 use Rattle.desk_core.proofs.StaysLemmas.{holds_on_law}

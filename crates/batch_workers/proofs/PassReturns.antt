@@ -1,13 +1,13 @@
 -- The turns in which a worker's pass registers the batch in hand and gives it back.
-use Rattle.std.proofs.Common.{◌≡◌, ◌≢◌, ℕ, Bool, true, false, cond, List, [], ◌∷◌, ◌++◌, refl, sym, ap, ◌∙◌, subst}
-use Rattle.std.specs.Prelude.{Option, Result, Ok, Err}
+use Rattle.std.proofs.Common.{◌≡◌, ℕ, Bool, true, false, cond, List, [], ◌∷◌, refl, ap, ◌∙◌, subst}
+use Rattle.std.specs.Prelude.{Ok, Err}
 use Rattle.std.specs.declared.alloc.AllocError.{AllocError}
 use Rattle.boot_program.specs.Batch.Parcels.{CertifiedRecord}
 use Rattle.cairo_model.specs.Pie.Records.{PieRecord}
-use Rattle.desk_core.specs.DeskRecords.{DeskRecord, journal_of, plain_of, tasks_at}
+use Rattle.desk_core.specs.DeskRecords.{DeskRecord, journal_of, plain_of}
 use Rattle.desk_core.specs.Desks.{PlainDesk, is_taken_by, phase_at}
 use Rattle.desk_core.specs.Journals.{no_pie}
-use Rattle.desk_core.specs.Next.{after_event, after_give_back, reply_to}
+use Rattle.desk_core.specs.Next.{after_event, after_give_back}
 use Rattle.desk_core.specs.Registrations.{IsLeastDifference, IsRegistering, pies_in}
 use Rattle.desk_core.specs.Stays.{pies_at}
 use Rattle.desk_core.specs.Turns.{IsTurn, entry_of}
@@ -15,7 +15,6 @@ use Rattle.desk_core.specs.declared.entry.FullEntry.{FullEntry}
 use Rattle.desk_core.specs.declared.event.Event.TheVariants as event
 use Rattle.desk_core.specs.declared.phase.Phase.{Phase}
 use Rattle.desk_core.specs.declared.phase.Phase.TheVariants as phase
-use Rattle.desk_core.specs.declared.register_end.RegisterEnd.{RegisterEnd}
 use Rattle.desk_core.specs.declared.register_end.RegisterEnd.TheVariants as end
 use Rattle.desk_core.specs.declared.reply.Reply.{Reply}
 use Rattle.desk_core.specs.declared.reply.Reply.TheVariants as reply
@@ -24,7 +23,7 @@ use Rattle.desk_core.proofs.HandLemmas.{hand_law}
 use Rattle.desk_core.proofs.SoundSteps.{taken_is}
 use Rattle.desk_core.proofs.StaysLemmas.{registers_law, returns_law}
 use Rattle.session_desk.specs.PassTurns.{EventTurn, PassTurn, RegisterTurn}
-use Rattle.session_desk.specs.SeenDesks.{IsIdlePass, seen_desk}
+use Rattle.session_desk.specs.SeenDesks.{seen_desk}
 use Rattle.session_desk.specs.Sessions.{HasOneMore}
 use Rattle.session_desk.proofs.Knowing.{sees_after}
 use Rattle.session_desk.proofs.Mine.{has_none_more, has_one_more}

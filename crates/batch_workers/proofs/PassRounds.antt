@@ -1,13 +1,12 @@
 -- How the rounds of a worker at a shared desk end, one after another.
 use Rattle.std.proofs.Common.{◌≡◌, ℕ, Bool, true, false, List, [], ◌∷◌, ◌++◌, refl, sym, ap, ◌∙◌, subst}
-use Rattle.std.specs.Prelude.{Option, Some, None}
-use Rattle.std.proofs.lemmas.List.{append_assoc}
+use Rattle.std.specs.Prelude.{Some, None}
 use Rattle.cairo_model.specs.Certificate.Records.{CertRecord}
 use Rattle.cairo_model.specs.declared.end.End.{End}
 use Rattle.cairo_model.specs.declared.end.End.TheVariants as end
 use Rattle.boot_program.specs.Batch.Parcels.{ParcelRecord}
 use Rattle.boot_program.specs.declared.run_fault.RunFault.{RunFault}
-use Rattle.desk_core.specs.Desks.{PlainDesk, phase_at}
+use Rattle.desk_core.specs.Desks.{phase_at}
 use Rattle.desk_core.specs.Journals.{no_pie}
 use Rattle.desk_core.specs.Registrations.{pies_in}
 use Rattle.desk_core.specs.Stays.{pies_at}
@@ -27,9 +26,8 @@ use Rattle.batch_workers.specs.declared.shared_round.SharedRound.{SharedRound}
 use Rattle.batch_workers.specs.declared.shared_round.SharedRound.TheVariants as round
 use Rattle.batch_workers.specs.declared.work_end.WorkEnd.{WorkEnd}
 use Rattle.batch_workers.specs.declared.work_end.WorkEnd.TheVariants as work
-use Rattle.batch_workers.proofs.Endings.{busy_on, idle_on}
+use Rattle.batch_workers.proofs.Endings.{busy_on}
 use Rattle.batch_workers.proofs.PassEvents.{no_more, works_by, works_then}
-use Rattle.batch_workers.proofs.PassReturns.{back_busy}
 
 pub busy_both : (a b c : Token FullEntry) → PassWorks EndBusy a b → PassWorks EndBusy b c → PassWorks EndBusy a c
 busy_both a b c x y = works_then a b c EndBusy EndBusy EndBusy busy_on x y

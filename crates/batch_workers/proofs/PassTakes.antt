@@ -1,6 +1,6 @@
 -- The turns in which a worker's pass takes and seals.
-use Rattle.std.proofs.Common.{◌≡◌, ◌≢◌, ℕ, ◌==◌, Bool, true, false, cond, List, [], ◌∷◌, ◌++◌, length, refl, sym, ap, ◌∙◌, subst}
-use Rattle.std.specs.Prelude.{Option, Some, None, Result, Ok, Err, unwrap_or}
+use Rattle.std.proofs.Common.{◌≡◌, ℕ, ◌==◌, Bool, true, false, cond, List, [], ◌∷◌, ◌++◌, length, refl, sym, ap, ◌∙◌, subst}
+use Rattle.std.specs.Prelude.{Option, Some, None, Ok, Err}
 use Rattle.std.specs.declared.alloc.AllocError.{AllocError}
 use Rattle.std.proofs.lemmas.List.{map-append}
 use Rattle.boot_program.specs.Batch.Parcels.{ParcelRecord}
@@ -9,12 +9,10 @@ use Rattle.desk_core.specs.Desks.{PlainDesk, first_sealed, phase_at, waiting_job
 use Rattle.desk_core.specs.Hands.{entries_of_pass, in_hand}
 use Rattle.desk_core.specs.Journals.{no_pie}
 use Rattle.desk_core.specs.Next.{reply_to, take_reply}
-use Rattle.desk_core.specs.Registrations.{pies_in}
-use Rattle.desk_core.specs.Stays.{Holds, pies_at, take_entry}
-use Rattle.desk_core.specs.Turns.{IsTurn, entry_of, handed_out}
+use Rattle.desk_core.specs.Stays.{pies_at, take_entry}
+use Rattle.desk_core.specs.Turns.{IsTurn, handed_out}
 use Rattle.desk_core.specs.declared.entry.FullEntry.{FullEntry}
 use Rattle.desk_core.specs.declared.event.Event.TheVariants as event
-use Rattle.desk_core.specs.declared.phase.Phase.TheVariants as phase
 use Rattle.desk_core.specs.declared.reply.Reply.{Reply}
 use Rattle.desk_core.specs.declared.reply.Reply.TheVariants as reply
 use Rattle.desk_core.proofs.StaysLemmas.{takes_law}
@@ -25,7 +23,7 @@ use Rattle.session_desk.proofs.Knowing.{own}
 use Rattle.session_desk.proofs.Mine.{has_none_more, has_one_more}
 use Rattle.turn_lock.specs.Passes.{Token}
 use Rattle.batch_workers.specs.SharedWorks.{PassWorks}
-use Rattle.batch_workers.specs.Working.SharedRounds.{HasBatch, IsItsParcel, PassSealing, PassTaking, PassTook, shared_sealing}
+use Rattle.batch_workers.specs.Working.SharedRounds.{HasBatch, PassSealing, PassTaking, PassTook, shared_sealing}
 use Rattle.batch_workers.specs.Works.{EndBusy}
 use Rattle.batch_workers.specs.declared.shared_round.SharedRound.{SharedRound}
 use Rattle.batch_workers.proofs.PassEvents.{alone_taken, idle_none, idle_sealed, none_done, one_busy, one_done, seen_is}

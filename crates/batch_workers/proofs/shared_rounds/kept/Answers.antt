@@ -1,4 +1,4 @@
-use Rattle.std.proofs.Common.{Bool, sym, subst}
+use Rattle.std.proofs.Common.{sym, subst}
 use Rattle.batch_workers.specs.Working.SharedRounds.{PassKept}
 use Rattle.batch_workers.proofs.PassReturns.{never_another, never_not_held, was_not_registered, was_registered}
 use Rattle.batch_workers.proofs.shared_rounds.kept.Goals.{in-Done, in-OutOfMemory}

@@ -1,4 +1,4 @@
-use Rattle.std.proofs.Common.{◌∙◌, ap, sym, subst}
+use Rattle.std.proofs.Common.{◌∙◌, ap}
 use Rattle.std.specs.Prelude.{Err}
 use Rattle.batch_workers.proofs.PassRounds.{by_registering, not_certified}
 use Rattle.batch_workers.proofs.shared_rounds.run_taken.Goals as goal
