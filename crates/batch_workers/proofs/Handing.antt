@@ -1,5 +1,5 @@
 -- A batch in hand is registered.
-use Rattle.std.proofs.Common.{◌≡◌, ℕ, ◌+◌, Bool, true, cond, List, [], ◌∷◌, ◌++◌, refl, sym, ap, ◌∙◌, subst}
+use Rattle.std.proofs.Common.{◌≡◌, ℕ, Bool, true, cond, List, [], ◌∷◌, ◌++◌, refl, sym, ap, ◌∙◌, subst}
 use Rattle.std.specs.Prelude.{Option, Some, None, slice_get}
 use Rattle.cairo_model.specs.Pie.Records.{PieRecord}
 use Rattle.boot_program.specs.Batch.Parcels.{CertifiedRecord}

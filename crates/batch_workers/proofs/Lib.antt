@@ -9,3 +9,7 @@ pub mod TakeRounds
 pub mod Returning
 pub mod Handing
 pub mod RoundEnds
+pub mod PassEvents
+pub mod PassTakes
+pub mod PassReturns
+pub mod PassRounds

@@ -44,11 +44,15 @@ abbrev pub is_nothing : Reply → Bool
 is_nothing (reply.NothingWaiting closed) = true
 is_nothing r = false
 
--- whether the last of these entries was replied that no job waits
+-- whether the reply to the last of these entries passes the test
+abbrev pub ends_with : (Reply → Bool) → List FullEntry → Bool
+ends_with test [] = false
+ends_with test (e ∷ []) = test e.entry.reply
+ends_with test (e ∷ f ∷ es) = ends_with test (f ∷ es)
+
+-- whether it is that no job waits
 abbrev pub ends_idle : List FullEntry → Bool
-ends_idle [] = false
-ends_idle (e ∷ []) = is_nothing e.entry.reply
-ends_idle (e ∷ f ∷ es) = ends_idle (f ∷ es)
+ends_idle es = ends_with is_nothing es
 
 -- the two turns in which a worker finds nothing to do: no batch is sealed, and then no job waits
 abbrev pub idle_turns : ℕ → Bool → List FullEntry

@@ -4,8 +4,9 @@ ghost use Rattle.desk_core.specs.DeskRecords.{plain_of};
 ghost use Rattle.desk_core.specs.Desks.{first_sealed};
 ghost use Rattle.desk_core.specs.GoodDesks.{IsGoodDesk};
 ghost use Rattle.desk_core.specs.Registrations.{pies_in};
+ghost use Rattle.session_desk.specs.PassTurns.{StillGood};
 ghost use Rattle.batch_workers.specs.Works.{IsFaulty, IsIdle, IsNotRejected, WorkDone, is_nothing as nothing_waits};
-ghost use Rattle.batch_workers.specs.Working.Rounds.{BatchDone, HandedBack, HoldsAlone, NotCertified, RegisterDone, RoundDone, SealDone, StillGood, rejecting_round, sealing_round};
+ghost use Rattle.batch_workers.specs.Working.Rounds.{BatchDone, HandedBack, HoldsAlone, NotCertified, RegisterDone, RoundDone, SealDone, rejecting_round, sealing_round};
 
 use crate::round::Round;
 use crate::work_end::WorkEnd;
@@ -21,7 +22,7 @@ use std::thread::Threads;
 const CHUNKS: usize = 8;
 
 /// How often it is tried again to give a batch back, where memory is wanted.
-const MOST_RETRIES: u32 = 64;
+pub(crate) const MOST_RETRIES: u32 = 64;
 
 /// Takes, makes, certifies and registers batches, and seals what waits, until no batch is sealed and no job waits
 /// (docs/SERVICE.md). A batch whose certificate finds no memory is given back, and so is one whose certificate has a fault.
@@ -133,7 +134,7 @@ fn rejected(back: bool, batch: u32, fault: RunFault) -> Round
 }
 
 // The parcel with its maker's certificate, checked.
-fn certified<R: Threads + Sync, M: Maker>(
+pub(crate) fn certified<R: Threads + Sync, M: Maker>(
     rt: &R,
     alloc: Global,
     maker: &M,

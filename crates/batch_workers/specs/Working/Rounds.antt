@@ -8,7 +8,6 @@ use Rattle.cairo_model.specs.declared.end.End.{End}
 use Rattle.cairo_model.specs.declared.end.End.TheVariants as end
 use Rattle.desk_core.specs.DeskRecords.{DeskRecord, plain_of}
 use Rattle.desk_core.specs.Desks.{PlainBatch, PlainDesk, is_sealed, phase_at, waiting_jobs}
-use Rattle.desk_core.specs.GoodDesks.{IsGoodDesk}
 use Rattle.desk_core.specs.Journals.{no_pie}
 use Rattle.desk_core.specs.Turns.{entry_of}
 use Rattle.desk_core.specs.declared.entry.FullEntry.{FullEntry}
@@ -37,9 +36,6 @@ pub record HoldsAlone (pass : ℕ) (d : PlainDesk) (b : ℕ) (pies : List PieRec
   pub taken : phase_at d b ≡ phase.Taken pass
   pub alone : (k : ℕ) → k ≢ b → phase_at d k ≢ phase.Taken pass
   pub are : pies_at d b ≡ pies
-
-abbrev pub StillGood : DeskRecord → DeskRecord → Type 0
-StillGood old new = IsGoodDesk old × IsGoodDesk new
 
 -- the entries are just these
 abbrev pub Are : List FullEntry → List FullEntry → Type 0

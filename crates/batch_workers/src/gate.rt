@@ -1,0 +1,7 @@
+use crate::point::Point;
+use std::sync::Wait;
+
+/// What a thread meets on its way, so that tests may hold it there. A gate changes no answer.
+pub trait Gate: Sync {
+    fn reach<R: Wait + Sync>(&self, rt: &R, point: Point);
+}
