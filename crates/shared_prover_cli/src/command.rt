@@ -1,8 +1,9 @@
 ghost use Rattle.std.specs.Prelude.{◌≡◌, [], ◌∷◌, IfSome, IfNone, Some, None, Option};
 ghost use Rattle.shared_prover_cli.specs.Commands.{Asks, AsksForNone, IsPlainCommand, row_of};
 
-use crate::limits::LEAST_JOBS;
+use crate::limits::{LEAST_BATCH, LEAST_CLIENTS, LEAST_JOBS, MOST_BATCH};
 use crate::number::number_in;
+use desk_core::limits::MOST_CLIENTS;
 use work_maker::limits::MOST_JOBS;
 
 /// What the program can be asked to do.
@@ -22,6 +23,12 @@ pub enum Command {
     Boot,
     /// Writes a script of so many jobs.
     Make(u32),
+    /// Runs a script of so many clients, and writes the transcript.
+    Batch(u32),
+    /// Runs a script of so many clients, and writes the certificate of the batch of this number.
+    Export(u32, u32),
+    /// Runs the script of so many jobs, and writes its numbers.
+    Trial(u32),
 }
 
 /// The command that the words ask for.
@@ -32,6 +39,14 @@ pub fn command_in(words: &[String]) -> Option<Command>
     match words {
         [word] => command_named(word.as_str()),
         [word, number] => command_with(word.as_str(), number.as_str()),
+        [word, option, number] => {
+            command_for(word.as_str(), option.as_str(), number.as_str())
+        }
+        [word, first, clients, second, batch] => command_of_batch(
+            word.as_str(),
+            (first.as_str(), clients.as_str()),
+            (second.as_str(), batch.as_str()),
+        ),
         _ => None,
     }
 }
@@ -61,9 +76,39 @@ fn command_with(word: &str, number: &str) -> Option<Command>
     ensures found { IfSome result (λ command. (row_of command).asked_by (word.now ∷ number.now ∷ [])) }
     ensures none { IfNone result ((command : Command) → IsPlainCommand command → ¬ ((row_of command).asked_by (word.now ∷ number.now ∷ []))) }
 {
-    if word != "make" {
-        return None;
+    if word == "make" {
+        let jobs = number_in(number, LEAST_JOBS, MOST_JOBS)?;
+        Some(Command::Make(jobs))
+    } else if word == "trial" {
+        let jobs = number_in(number, LEAST_JOBS, MOST_JOBS)?;
+        Some(Command::Trial(jobs))
+    } else {
+        None
     }
-    let jobs = number_in(number, LEAST_JOBS, MOST_JOBS)?;
-    Some(Command::Make(jobs))
+}
+
+fn command_for(word: &str, option: &str, number: &str) -> Option<Command>
+    ensures found { IfSome result (λ command. (row_of command).asked_by (word.now ∷ option.now ∷ number.now ∷ [])) }
+    ensures none { IfNone result ((command : Command) → IsPlainCommand command → ¬ ((row_of command).asked_by (word.now ∷ option.now ∷ number.now ∷ []))) }
+{
+    if word == "batch" && option == "--clients" {
+        let clients = number_in(number, LEAST_CLIENTS, MOST_CLIENTS)?;
+        Some(Command::Batch(clients))
+    } else {
+        None
+    }
+}
+
+// Of an option its name comes first, then its number.
+fn command_of_batch(word: &str, first: (&str, &str), second: (&str, &str)) -> Option<Command>
+    ensures found { IfSome result (λ command. (row_of command).asked_by (word.now ∷ first.0.now ∷ first.1.now ∷ second.0.now ∷ second.1.now ∷ [])) }
+    ensures none { IfNone result ((command : Command) → IsPlainCommand command → ¬ ((row_of command).asked_by (word.now ∷ first.0.now ∷ first.1.now ∷ second.0.now ∷ second.1.now ∷ []))) }
+{
+    if word == "export" && first.0 == "--clients" && second.0 == "--batch" {
+        let clients = number_in(first.1, LEAST_CLIENTS, MOST_CLIENTS)?;
+        let batch = number_in(second.1, LEAST_BATCH, MOST_BATCH)?;
+        Some(Command::Export(clients, batch))
+    } else {
+        None
+    }
 }

@@ -1,0 +1,6 @@
+pub mod LineEntries
+pub mod ServedLines
+pub mod OwnReplies
+pub mod InTurn
+pub mod DeskSteps
+pub mod WholeRuns
