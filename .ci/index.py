@@ -17,15 +17,12 @@ TOP = pathlib.Path(__file__).resolve().parent.parent
 PAGE = TOP / "docs" / "INDEX.md"
 CLAIMS = TOP / "docs" / "CLAIMS.md"
 
-# A program exports nothing: its surface is what main.rt uses, and these modules.
-SURFACE_OF_A_PROGRAM = ("laws", "stream", "memory", "sure")
-
 # Limits that must have a name wherever a clause, a definition or a body needs them.
 LIMITS = r"65[_]?536|2[_]?097[_]?152|201[_]?326[_]?592|262[_]?144|2[_]?147[_]?483[_]?648|2 ?\^ ?31\b|1 << 31\b"
 # Where the numbers of segments stand in definitions.
 SEGMENTS = r"\bplace [0-7] |\bsegment_size pie [0-7]\b|\bvalue_at (?:pie\.)?cells [0-7]\b|\bHoldsNumbers \S+ [0-7] "
 # Files that give limits and segments their names, and worked examples.
-NAMING = re.compile(r"(^|/)([Ll]imits|[Ss]egments|tests|vectors|\w+_tests)\.(rt|antt)$|/worked_examples/")
+NAMING = re.compile(r"(^|/)([Ll]imits|[Ss]egments|tests)\.(rt|antt)$|/worked_\w+/")
 
 WORD = re.compile(r"[^\s(){}\[\],;:`]+")
 HEAD = re.compile(r"^ *(?:(?:abbrev|unfoldable) pub|pub (?:record|data)|pub)\s+(?!mod\b|use\b)([^\s({:]+)")
@@ -158,13 +155,11 @@ def contract_at(text, start):
 def exported_by(root):
     """The names that a crate's root makes public, and the modules whose public items all are."""
     text = root.read_text()
-    is_program = root.name == "main.rt"
-    head = r"^use (?!std::|crate::)" if is_program else r"^pub use "
-    groups = re.findall(head + r"[\w:]+?::(?:\{([^}]*)\}|(\w+));", text, re.M)
+    groups = re.findall(r"^pub use [\w:]+?::(?:\{([^}]*)\}|(\w+));", text, re.M)
     names = {name.strip() for many, one in groups for name in (many or one).split(",")}
     own = re.findall(r"^pub (?:struct|enum|trait|fn) (\w+)", text, re.M)
     modules = re.findall(r"^pub mod (\w+)", text, re.M)
-    return {*names, *own}, {"main", *SURFACE_OF_A_PROGRAM} if is_program else {"lib", *modules}
+    return {*names, *own}, {"lib", *modules}
 
 
 def sources(crate):

@@ -16,7 +16,7 @@ import tempfile
 from roomy import certificate, facts_line, pie, roomy_run
 
 TOP = os.path.dirname(os.path.dirname(os.path.abspath(__file__)))
-PROGRAM = os.path.join(TOP, "crates/shared_prover_cli/out/shared_prover_cli")
+PROGRAM = os.path.join(TOP, "crates/shared_prover/out/shared_prover")
 LAUNCHER = os.path.join(TOP, "shared_prover")
 EXAMPLES = os.path.join(TOP, "examples")
 
@@ -101,7 +101,7 @@ def try_boot():
     """`boot` prints the words whatever its standard input is, and reads none of it."""
     lines = boot_lines()
     expect("the lines of the bootloader", (lines.count(b"\n"), len(lines)), (117, 2349))
-    with open(os.path.join(TOP, "crates/worked_examples/src/boot_text.rt"), "rb") as file:
+    with open(os.path.join(TOP, "crates/worked_texts/src/boot_text.rt"), "rb") as file:
         expect("the text in a test is the example's", b'"' + example("boot.casm") + b'"' in file.read(), True)
     expect("boot", run(["boot"]), (0, lines, b""))
     expect("boot with its input closed", run(["boot"], stdin=None, preexec_fn=lambda: os.close(0)), (0, lines, b""))
@@ -148,8 +148,8 @@ def try_launcher(five):
 FAKE_BUILD = """#!/bin/sh
 echo noise
 mkdir -p out
-printf '%s\\n' '#!/bin/sh' 'echo "$@"' 'cat' 'exit 3' > out/shared_prover_cli
-chmod +x out/shared_prover_cli
+printf '%s\\n' '#!/bin/sh' 'echo "$@"' 'cat' 'exit 3' > out/shared_prover
+chmod +x out/shared_prover
 """
 
 
@@ -158,7 +158,7 @@ def try_building():
     with tempfile.TemporaryDirectory() as top:
         launcher = shutil.copy(LAUNCHER, top)
         shutil.copy(os.path.join(TOP, "crates.txt"), top)
-        os.makedirs(os.path.join(top, "crates/shared_prover_cli"))
+        os.makedirs(os.path.join(top, "crates/shared_prover"))
         path = {"PATH": "/usr/bin:/bin"}
         expect("the launcher without rt", run(["replay"], program=launcher, env=path),
                (70, b"", b"shared_prover: cannot build: rt, the command of the Rattle toolchain, is not on the PATH\n"))

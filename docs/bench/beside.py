@@ -11,7 +11,7 @@ import os
 import subprocess
 import sys
 
-PROGRAM = "crates/shared_prover_cli/out/shared_prover_cli"
+PROGRAM = "crates/shared_prover/out/shared_prover"
 
 
 def processor_time(command, path):

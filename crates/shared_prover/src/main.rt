@@ -1,0 +1,39 @@
+// The program: its streams, its words and its exit status.
+#![tactic(auto)]
+
+use shared_prover_cli::{StdSink, StdSource, Status, exit_code, explanation, run_plain, words_of};
+use std::env;
+use std::io::ErrorKind;
+use std::process::ExitCode;
+use std::rt::Env;
+
+fn main(rt: HostRuntime) -> ExitCode {
+    let status = match arguments(&rt) {
+        Ok(args) => {
+            let mut source = StdSource::new(rt.stdin());
+            let mut sink = StdSink::new(rt.stdout());
+            run_plain(
+                &rt,
+                rt.alloc(),
+                words_of(args.as_slice()),
+                &mut source,
+                &mut sink,
+            )
+        }
+        Err(status) => status,
+    };
+    if let Some(line) = explanation(status) {
+        let _ = eprintln!(rt; "shared_prover: {line}");
+    }
+    exit_code(status)
+}
+
+// The program's arguments. Where one is not UTF-8, no command has these words.
+fn arguments<R: Env + AllocGlobal>(rt: &R) -> Result<Vec<String>, Status> {
+    let args = match env::args(rt) {
+        Ok(args) => args,
+        Err(fault) if fault.kind() == ErrorKind::OutOfMemory => return Err(Status::OutOfMemory),
+        Err(_) => return Err(Status::Usage),
+    };
+    args.collect(rt.alloc()).map_err(|_| Status::OutOfMemory)
+}

@@ -1,0 +1,158 @@
+use crate::asking::{answer, answer_in_pieces};
+use hex::decode;
+use std::alloc::Global;
+use std::test::Fail;
+use std::thread::Threads;
+use worked_vectors::certificates::{BACK_CERTIFICATE, DOWN_3_CERTIFICATE, EMPTY_CERTIFICATE, FIVE_CERTIFICATE, HASH_CERTIFICATE, RANGE_CERTIFICATE, SILENT_CERTIFICATE, TALL_CERTIFICATE};
+use worked_vectors::files::{ADDR, BACK, DOWN_3, EMPTY, FIVE, HASH0, RANGE_7, TALL};
+
+// A certificate with other bytes at these places.
+fn changed(alloc: Global, digits: &str, changes: &[(usize, u8)]) -> Result<Vec<u8>, Fail> {
+    let mut bytes = decode(alloc, digits)?;
+    for &(at, byte) in changes {
+        if let Some(place) = bytes.get_mut(at) {
+            *place = byte;
+        }
+    }
+    Ok(bytes)
+}
+
+#[test]
+fn a_placed_run_is_its_certificate(rt: HostRuntime) -> Result<(), Fail> {
+    for (digits, certificate) in [
+        (EMPTY, EMPTY_CERTIFICATE),
+        (FIVE, FIVE_CERTIFICATE),
+        (BACK, BACK_CERTIFICATE),
+        (TALL, TALL_CERTIFICATE),
+        (DOWN_3, DOWN_3_CERTIFICATE),
+        (RANGE_7, RANGE_CERTIFICATE),
+        (HASH0, HASH_CERTIFICATE),
+    ] {
+        let found = answer(&rt, "place", decode(rt.alloc(), digits)?)?;
+        assert_eq!(rt; found.0, 0);
+        assert_eq!(rt;
+            found.1.as_slice(),
+            decode(rt.alloc(), certificate)?.as_slice()
+        );
+    }
+    for (digits, line) in [(ADDR, "refused 26 0 9\n"), ("", "refused 3 0\n")] {
+        let refused = answer(&rt, "place", decode(rt.alloc(), digits)?)?;
+        assert_eq!(rt; refused.0, 1);
+        assert_eq!(rt; refused.1.as_slice(), line.as_bytes());
+    }
+    Ok(())
+}
+
+#[test]
+fn certificates_have_their_answers(rt: HostRuntime) -> Result<(), Fail> {
+    for (digits, status, text) in [
+        (EMPTY_CERTIFICATE, 0, "accepted alone 4 outputs\n"),
+        (FIVE_CERTIFICATE, 0, "accepted alone 6 outputs 5\n"),
+        (BACK_CERTIFICATE, 0, "accepted alone 7 outputs\n"),
+        (TALL_CERTIFICATE, 0, "accepted alone 4 outputs\n"),
+        (DOWN_3_CERTIFICATE, 0, "accepted alone 20 outputs 1\n"),
+        (RANGE_CERTIFICATE, 0, "accepted alone 6 outputs\n"),
+        (HASH_CERTIFICATE, 0, "accepted alone 4 outputs\n"),
+        (SILENT_CERTIFICATE, 1, "refused run 7 0 - -\n"),
+        ("", 1, "refused certificate 2 0\n"),
+    ] {
+        let found = answer(&rt, "check", decode(rt.alloc(), digits)?)?;
+        assert_eq!(rt; found.0, status, "{text}");
+        assert_eq!(rt; found.1.as_slice(), text.as_bytes(), "{text}");
+    }
+    Ok(())
+}
+
+#[test]
+fn the_first_fault_is_named(rt: HostRuntime) -> Result<(), Fail> {
+    for (at, byte, text) in [
+        (0, 0, "refused certificate 1\n"),
+        (8, 2, "refused certificate 3 8\n"),
+        (8, 1, "refused run 1 1\n"),
+        (24, 19, "refused certificate 4 17\n"),
+        (372, 16, "refused run 2 1\n"),
+        (16, 19, "refused run 2 2\n"),
+        (508, 26, "refused run 3 1\n"),
+        (24, 22, "refused run 3 3\n"),
+        (452, 16, "refused run 6 2 11\n"),
+        (74, 14, "refused run 6 0 2\n"),
+    ] {
+        let found = answer(
+            &rt,
+            "check",
+            changed(rt.alloc(), FIVE_CERTIFICATE, &[(at, byte)])?,
+        )?;
+        assert_eq!(rt; found.0, 1, "{text}");
+        assert_eq!(rt; found.1.as_slice(), text.as_bytes(), "{text}");
+    }
+    let five = decode(rt.alloc(), FIVE_CERTIFICATE)?;
+    let shorter = five.get(..524).unwrap_or(&[]).to_vec(rt.alloc())?;
+    assert_eq!(rt;
+        answer(&rt, "check", shorter)?.1.as_slice(),
+        b"refused certificate 2 524\n".as_slice()
+    );
+    let mut longer = five;
+    longer.push(0)?;
+    assert_eq!(rt;
+        answer(&rt, "check", longer)?.1.as_slice(),
+        b"refused certificate 5 1\n".as_slice()
+    );
+    Ok(())
+}
+
+#[test]
+fn bytes_that_come_one_by_one_have_the_same_answer(rt: HostRuntime) -> Result<(), Fail> {
+    let many: &[(usize, u8)] = &[(61, 0xff), (62, 0xff), (63, 0xff), (64, 0xff)];
+    let rows: [(&[(usize, u8)], &[u8], &str); 4] = [
+        (&[], &[], "accepted alone 6 outputs 5\n"),
+        (many, &[], "refused certificate 2 525\n"),
+        (&[(8, 2)], &[], "refused certificate 3 8\n"),
+        (&[], &[0], "refused certificate 5 1\n"),
+    ];
+    for (changes, more, text) in rows {
+        let mut bytes = changed(rt.alloc(), FIVE_CERTIFICATE, changes)?;
+        bytes.extend_from_slice(more)?;
+        let found = answer_in_pieces(&rt, "check", bytes, 1)?;
+        assert_eq!(rt; found.1.as_slice(), text.as_bytes(), "{text}");
+    }
+    Ok(())
+}
+
+// The line that answers a certificate with other bytes at these places.
+fn line(
+    rt: &(impl Threads + Sync + AllocGlobal),
+    digits: &str,
+    changes: &[(usize, u8)],
+) -> Result<Vec<u8>, Fail> {
+    let bytes = changed(rt.alloc(), digits, changes)?;
+    Ok(answer(rt, "check", bytes)?.1)
+}
+
+#[test]
+fn a_range_cell_is_below_two_to_the_32(rt: HostRuntime) -> Result<(), Fail> {
+    let over = line(&rt, RANGE_CERTIFICATE, &[(348, 1), (352, 0)])?;
+    assert_eq!(rt; over.as_slice(), b"refused run 4 0\n".as_slice());
+    Ok(())
+}
+
+// The last byte of the hash span's stop is at 56, and that of the cell with the stop pointer at 272.
+#[test]
+fn a_hash_span_has_whole_instances(rt: HostRuntime) -> Result<(), Fail> {
+    let wrong_word = line(&rt, HASH_CERTIFICATE, &[(480, 0)])?;
+    assert_eq!(rt; wrong_word.as_slice(), b"refused run 5 0\n".as_slice());
+    let cut = line(&rt, HASH_CERTIFICATE, &[(56, 37), (272, 37)])?;
+    assert_eq!(rt; cut.as_slice(), b"refused run 5 0\n".as_slice());
+    let one_more = line(&rt, HASH_CERTIFICATE, &[(56, 39), (272, 39)])?;
+    assert_eq!(rt; one_more.as_slice(), b"refused run 5 1\n".as_slice());
+    let absent = line(&rt, HASH_CERTIFICATE, &[(56, 58), (272, 58)])?;
+    assert_eq!(rt; absent.as_slice(), b"refused run 5 1\n".as_slice());
+    Ok(())
+}
+
+// The range span has one address, without a cell, and the instance a wrong word.
+#[test]
+fn the_range_span_comes_before_the_hash_span(rt: HostRuntime) -> Result<(), Fail> {
+    let both = line(&rt, HASH_CERTIFICATE, &[(40, 18), (256, 18), (480, 0)])?;
+    assert_eq!(rt; both.as_slice(), b"refused run 4 0\n".as_slice());
+    Ok(())
+}
