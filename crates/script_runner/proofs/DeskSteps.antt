@@ -2,12 +2,9 @@
 use Rattle.std.proofs.Common.{◌≡◌, ◌≢◌, ℕ, Bool, true, false, cond, List, [], ◌∷◌, refl, sym, ap, ◌∙◌}
 use Rattle.std.specs.Option.{option_map_or}
 use Rattle.std.specs.Prelude.{slice_get}
-use Rattle.cairo_model.specs.Certificate.Records.{CertRecord}
 use Rattle.cairo_model.specs.Pie.Acceptance.{FactRecord}
 use Rattle.cairo_model.specs.Pie.Records.{PieRecord}
-use Rattle.boot_program.specs.Batch.Parcels.{ParcelRecord}
-use Rattle.batch_workers.specs.Works.{WorkDone, WorksAlone, is_work}
-use Rattle.batch_workers.specs.declared.work_end.WorkEnd.TheVariants.{Drained}
+use Rattle.batch_workers.specs.Works.{is_work}
 use Rattle.desk_core.specs.DeskRecords.{DeskRecord, journal_of, plain_of}
 use Rattle.desk_core.specs.Desks.{PlainBatch, PlainDesk}
 use Rattle.desk_core.specs.Journals.{no_pie}
@@ -19,9 +16,9 @@ use Rattle.desk_core.specs.declared.event.Event.TheVariants as event
 use Rattle.desk_core.specs.declared.offer.Offer.{Offer}
 use Rattle.desk_core.specs.declared.phase.Phase.TheVariants as phase
 use Rattle.desk_core.specs.declared.reply.Reply.{Reply}
-use Rattle.desk_script.specs.Lines.{asks, asks_status, settles, submits}
+use Rattle.desk_script.specs.Lines.{asks, asks_status, submits}
 use Rattle.script_runner.specs.Lines.{OffersBytes}
-use Rattle.script_runner.specs.Working.Doing.{DidLine, DidLines, NoneTaken, Settled}
+use Rattle.script_runner.specs.Working.Doing.{DidLine, DidLines, NoneTaken}
 
 -- ---- batches stay where they are
 
@@ -83,32 +80,6 @@ asked_status client number old new r turn free = record {
   free = free_after old new client (event.Status client number) no_pie r refl turn free;
 }
 
--- ---- settling
-
--- a worker that is drained has settled, where no batch was taken before
-pub settled : (pass : ℕ) (H : Type 0) (G : ParcelRecord → CertRecord → Type 0) (old new : DeskRecord) → WorkDone pass H G old new Drained → NoneTaken (plain_of old) → Settled pass old new
-settled pass H G old new done free =
-    let alone : WorksAlone pass (plain_of old) = (λ b by is. absurd (free b by is)) in
-    record {
-      more = done.0.more;
-      journal = done.0.journal;
-      settles = record { works = done.0.works; ends = done.0.ends };
-      registered = done.1.1 alone;
-      clients = done.0.clients;
-      closed = done.0.closed;
-      free = λ b by is. done.1.0 b (is ∙ ap phase.Taken (done.0.alone alone b by is));
-    }
-
-pub settled_line : (client : ℕ) (old new : DeskRecord) → Settled client old new → DidLine (settles client) old new
-settled_line client old new s = record {
-  more = s.more;
-  journal = s.journal;
-  does = s.settles;
-  settled = s.registered;
-  clients = s.clients;
-  free = s.free;
-}
-
 -- ---- the empty desk
 
 none_of_none : (b pass : ℕ) → option_map_or (λ (x : PlainBatch). x.phase) (slice_get [] b) phase.NoBatch ≢ phase.Taken pass
@@ -117,6 +88,6 @@ none_of_none b pass is = absurd (cc)
 pub nothing_done : (clients : ℕ) (d : DeskRecord) → IsNewDesk clients d → DidLines clients [] d
 nothing_done clients d new = record {
   in_turn = ap journal_of new;
-  clients = ap (λ (x : DeskRecord). x.clients) new;
+  count = ap (λ (x : DeskRecord). x.clients) new;
   free = still_free (plain_of (record { clients = clients; jobs = []; batches = []; registry = []; entries = []; closed = false; turns = 0 })) (plain_of d) (ap (λ (x : DeskRecord). (plain_of x).batches) new) none_of_none;
 }

@@ -96,8 +96,8 @@ works_request_none pass es works = All-weaker (IsWorkOf pass) IsNoRequest (λ e 
 
 zip_one : (l : ScriptLine) (ls : List ScriptLine) (es front rest : List FullEntry) → es ≡ front ++ rest → (one : IsOneEntryOf l front) → is_request one.one.entry.event ≡ true
     → AllZip IsEntryOf ls (requests_in rest) → AllZip IsEntryOf (l ∷ ls) (requests_in es)
-zip_one l ls es front rest is one asks zip =
-    let first : requests_in front ≡ one.one ∷ [] = ap requests_in one.are ∙ if_true (is_request one.one.entry.event) (one.one ∷ []) [] asks in
+zip_one l ls es front rest is one requested zip =
+    let first : requests_in front ≡ one.one ∷ [] = ap requests_in one.are ∙ if_true (is_request one.one.entry.event) (one.one ∷ []) [] requested in
     let split : requests_in es ≡ one.one ∷ requests_in rest =
     ap requests_in is ∙ (filter-append (λ (e : FullEntry). is_request e.entry.event) front rest ∙ ap (λ (xs : List FullEntry). xs ++ requests_in rest) first) in
     subst (AllZip IsEntryOf (l ∷ ls)) (sym split) (one.of_line, zip)

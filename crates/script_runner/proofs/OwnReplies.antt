@@ -139,9 +139,13 @@ works_no_note pass (e ∷ es) all =
 are_notes : (ls : List ScriptLine) (es : List FullEntry) → DoesLines ls es → AreNotesOf ls (handed_notes es)
 are_notes [] es done = ap handed_notes done
 are_notes (submits client bytes ∷ ls) es (front, rest, is, this, those) =
-    let h = this.of_line in
-    (offer_note h.offer, handed_notes rest, notes_split es front rest (offer_note h.offer ∷ []) is (one_note front this.one (event.Submit client (offer_note h.offer)) this.are (ap (λ (e : FullEntry). e.entry.event) h.entry)),
-      record { offer = h.offer; of_bytes = h.of_bytes; note = refl }, are_notes ls rest those)
+    let h = this.of_line in (
+      offer_note h.offer,
+      handed_notes rest,
+      notes_split es front rest (offer_note h.offer ∷ []) is (one_note front this.one (event.Submit client (offer_note h.offer)) this.are (ap (λ (e : FullEntry). e.entry.event) h.entry)),
+      record { offer = h.offer; of_bytes = h.of_bytes; note = refl },
+      are_notes ls rest those,
+    )
 are_notes (asks client fact ∷ ls) es (front, rest, is, this, those) =
     subst (AreNotesOf ls) (sym (notes_split es front rest [] is (one_note front this.one (event.Ask client fact) this.are this.of_line.event))) (are_notes ls rest those)
 are_notes (asks_status client number ∷ ls) es (front, rest, is, this, those) =

@@ -19,7 +19,7 @@ requests_below clients (l ∷ ls) es few (front, rest, is, this, those) =
     let small : line_client l < clients = All-head (λ (k : ScriptLine). line_client k < clients) l ls few in
     All-same (IsRequestBelow clients) es (front ++ rest) is
     (All-append (IsRequestBelow clients) front rest
-    (All-weaker (IsUnder (line_client l)) (IsRequestBelow clients) (λ e under asks. subst (λ (n : ℕ). n < clients) (sym under) small) front (line_under l front this))
+    (All-weaker (IsUnder (line_client l)) (IsRequestBelow clients) (λ e its requested. subst (λ (n : ℕ). n < clients) (sym its) small) front (line_under l front this))
     (requests_below clients ls rest (All-tail (λ (k : ScriptLine). line_client k < clients) l ls few) those))
 
 module _ (clients : ℕ) (ls : List ScriptLine) (es end journal : List FullEntry) (is : journal ≡ es ++ end) (under : All (IsUnder clients) end) (none : All IsNoRequest end) where
@@ -37,7 +37,7 @@ module _ (clients : ℕ) (ls : List ScriptLine) (es end journal : List FullEntry
       ∙ (ap (λ (xs : List FullEntry). requests_in es ++ xs) (no_requests end none) ∙ append-nil (requests_in es)))
 
   asks_none : (e : FullEntry) → IsNoRequest e → IsRequestBelow clients e
-  asks_none e no asks = absurd (let t : true ≡ false = sym asks ∙ no in cc)
+  asks_none e quiet requested = absurd (let t : true ≡ false = sym requested ∙ quiet in cc)
 
   pub serves_lines : All (λ l. line_client l < clients) ls → DoesLines ls es → ServesLines clients ls journal
   serves_lines few done = record {

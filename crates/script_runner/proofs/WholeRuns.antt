@@ -46,7 +46,7 @@ whole_run clients ls old mid new r few did turn s good =
     let done = in_lines (empty_desk clients) ls es did.in_turn in
     record {
       serves = record {
-        count = s.clients ∙ (turn.clients ∙ did.clients);
+        count = s.clients ∙ (turn.clients ∙ did.count);
         closed = s.closed ∙ (ap (λ (d : PlainDesk). d.closed) turn.becomes ∙ closed_after (plain_of old) clients no_pie);
         served = serves_lines clients ls es (k ∷ s.more) (journal_of new) is under none few done;
         registered = s.registered;

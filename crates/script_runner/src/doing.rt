@@ -60,12 +60,7 @@ fn do_line<R: Threads + Sync, M: Maker>(
 }
 
 // Hands in what a client's bytes are.
-fn submit_bytes(
-    alloc: Global,
-    desk: &mut Desk,
-    client: u32,
-    bytes: &[u8],
-) -> Result<(), AllocError>
+fn submit_bytes(alloc: Global, desk: &mut Desk, client: u32, bytes: &[u8]) -> Result<(), AllocError>
     requires client { client < desk.old.clients }
     requires free { NoneTaken (plain_of desk.old) }
     ensures did { IfOk result (λ _. DidLine (submits client bytes.now) desk.old desk.new) }
@@ -87,12 +82,7 @@ fn ask_fact(alloc: Global, desk: &mut Desk, client: u32, fact: &Fact) -> Result<
     Ok(())
 }
 
-fn ask_status(
-    alloc: Global,
-    desk: &mut Desk,
-    client: u32,
-    number: u32,
-) -> Result<(), AllocError>
+fn ask_status(alloc: Global, desk: &mut Desk, client: u32, number: u32) -> Result<(), AllocError>
     requires client { client < desk.old.clients }
     requires free { NoneTaken (plain_of desk.old) }
     ensures did { IfOk result (λ _. DidLine (asks_status client number) desk.old desk.new) }

@@ -58,7 +58,8 @@ fn put_count(
 {
     text.extend_from_slice(name)?;
     put_number(alloc, text, count)?;
-    text.push(b'\n')
+    text.push(b'\n')?;
+    Ok(())
 }
 
 // The steps of the jobs together.

@@ -26,6 +26,6 @@ pub fn answer_in_pieces(
     words.push(word.to_string(rt.alloc())?)?;
     let mut source = MemSource::new(bytes, most, Vec::new(rt.alloc()));
     let mut sink = MemSink::new(rt.alloc(), 4_000, 100, Vec::new(rt.alloc()))?;
-    let status = run_plain(rt, rt.alloc(), words.as_slice(), &mut source, &mut sink);
-    Ok((status.number(), sink.bytes().to_vec(rt.alloc())?))
+    let ended = run_plain(rt, rt.alloc(), words.as_slice(), &mut source, &mut sink);
+    Ok((ended.status.number(), sink.bytes().to_vec(rt.alloc())?))
 }

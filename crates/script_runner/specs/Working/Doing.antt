@@ -35,5 +35,5 @@ pub record Settled (pass : ℕ) (old new : DeskRecord) : Type 0 where
 -- the desk's whole journal is that of these lines in order
 pub record DidLines (clients : ℕ) (lines : List ScriptLine) (d : DeskRecord) : Type 0 where
   pub in_turn : DoesInTurn (empty_desk clients) lines (journal_of d)
-  pub clients : d.clients ≡ clients
+  pub count : d.clients ≡ clients
   pub free : NoneTaken (plain_of d)
