@@ -17,7 +17,7 @@ use Rattle.desk_core.specs.declared.offer.Offer.{Offer}
 use Rattle.desk_core.specs.declared.phase.Phase.TheVariants as phase
 use Rattle.desk_core.specs.declared.reply.Reply.{Reply}
 use Rattle.desk_script.specs.Lines.{asks, asks_status, submits}
-use Rattle.script_runner.specs.Lines.{OffersBytes}
+use Rattle.session_desk.specs.Offers.{OffersBytes}
 use Rattle.script_runner.specs.Working.Doing.{DidLine, DidLines, NoneTaken}
 
 -- ---- batches stay where they are

@@ -21,7 +21,7 @@ use Rattle.script_runner.proofs.LineEntries.{each_client, if_true}
 -- ---- one entry
 
 -- Where it hands something in, its client is the one whose pass it is: b says whether that is c. It isn't the close.
-abbrev IsOwnEvent : ℕ → Bool → Event → Type 0
+abbrev pub IsOwnEvent : ℕ → Bool → Event → Type 0
 IsOwnEvent c b (event.Submit client n) = (client == c) ≡ b
 IsOwnEvent c b event.Seal = Unit {0}
 IsOwnEvent c b event.Take = Unit {0}
@@ -95,7 +95,7 @@ work_is_own c b (event.Ask client fact) is = absurd (cc)
 work_is_own c b (event.Status client number) is = absurd (cc)
 work_is_own c b event.Close is = absurd (cc)
 
-abbrev OwnOf : ℕ → FullEntry → Type 0
+abbrev pub OwnOf : ℕ → FullEntry → Type 0
 OwnOf c e = IsOwnEvent c (e.entry.pass == c) e.entry.event
 
 one_own : (c : ℕ) (es : List FullEntry) (e : FullEntry) → es ≡ e ∷ [] → OwnOf c e → All (OwnOf c) es
@@ -107,7 +107,7 @@ line_own c (asks client fact) es h = one_own c es h.one h.are (subst (IsOwnEvent
 line_own c (asks_status client number) es h = one_own c es h.one h.are (subst (IsOwnEvent c (h.one.entry.pass == c)) (sym h.of_line.event) tt)
 line_own c (settles client) es h = All-weaker (IsWorkOf client) (OwnOf c) (λ e w. work_is_own c (e.entry.pass == c) e.entry.event w.kind) es h.works
 
-lines_own : (c : ℕ) (ls : List ScriptLine) (es : List FullEntry) → DoesLines ls es → All (OwnOf c) es
+pub lines_own : (c : ℕ) (ls : List ScriptLine) (es : List FullEntry) → DoesLines ls es → All (OwnOf c) es
 lines_own c [] es done = All-same (OwnOf c) es [] done (All-nil (OwnOf c))
 lines_own c (l ∷ ls) es (front, rest, is, this, those) =
     All-same (OwnOf c) es (front ++ rest) is (All-append (OwnOf c) front rest (line_own c l front this) (lines_own c ls rest those))

@@ -22,6 +22,7 @@ use Rattle.script_runner.specs.Working.Doing.{DidLines, Settled}
 use Rattle.script_runner.proofs.InTurn.{in_lines}
 use Rattle.script_runner.proofs.LineEntries.{IsNoRequest, IsUnder, works_request_none}
 use Rattle.script_runner.proofs.OwnReplies.{by_itself}
+use Rattle.script_runner.proofs.OwnTexts.{own_texts}
 use Rattle.script_runner.proofs.ServedLines.{client_entries, in_order, serves_lines}
 
 closing_reply : (d : PlainDesk) (pass : ℕ) → reply_to d pass event.Close ≡ reply.Closed
@@ -51,6 +52,7 @@ whole_run clients ls old mid new r few did turn s good =
         served = serves_lines clients ls es (k ∷ s.more) (journal_of new) is under none few done;
         registered = s.registered;
         isolated = λ c small. by_itself c ls es s.more (journal_of new) k is refl (journal_isolated new good) done (client_entries clients ls es (k ∷ s.more) (journal_of new) is under none c small);
+        texts = λ c small. own_texts c clients ls es s.more new k is refl good done s.settles.works;
       };
       by_lines = es;
       at_end = s.more;

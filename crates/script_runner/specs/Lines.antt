@@ -1,15 +1,13 @@
 -- The lines of a script, and what the entries of a journal have to do with them (docs/SERVICE.md).
 use Rattle.std.specs.Prelude.{ℕ, ◌≡◌, ◌==◌, Bool, true, false, List, [], ◌∷◌, ◌++◌, All, filter}
-use Rattle.cairo_model.specs.Refusals.Verdicts.{IsVerdict, Verdict, admitted}
-use Rattle.cairo_model.specs.Views.Refusals.{refused}
 use Rattle.batch_workers.specs.Works.{EndIdle, IsWorkOf}
 use Rattle.desk_core.specs.Turns.{entry_of, offer_note, pie_of}
 use Rattle.desk_core.specs.declared.entry.FullEntry.{FullEntry}
 use Rattle.desk_core.specs.declared.event.Event.{Event}
 use Rattle.desk_core.specs.declared.event.Event.TheVariants as event
 use Rattle.desk_core.specs.declared.offer.Offer.{Offer}
-use Rattle.desk_core.specs.declared.offer.Offer.TheVariants as offer
 use Rattle.desk_script.specs.Lines.{ScriptLine, asks, asks_status, settles, submits}
+use Rattle.session_desk.specs.Offers.{OffersBytes}
 
 -- ---- lines
 
@@ -52,15 +50,6 @@ abbrev pub requests_in : List FullEntry → List FullEntry
 requests_in es = filter (λ e. is_request e.entry.event) es
 
 -- ---- the entries of a line
-
--- the verdict that an offer says
-abbrev pub offered_verdict : Offer → Verdict
-offered_verdict (offer.Accepted checked) = admitted checked
-offered_verdict (offer.Refused r) = refused r
-
--- The offer is that of these bytes: accepted with the PIE that they are, or refused with the reason.
-abbrev pub OffersBytes : List ℕ → Offer → Type 0
-OffersBytes bytes o = IsVerdict bytes (offered_verdict o)
 
 -- The entry hands in an offer of these bytes, under the client's own pass: it has the offer's note, and where a job was admitted
 -- the PIE of the bytes.

@@ -12,7 +12,9 @@ use Rattle.desk_core.specs.declared.event.OfferNote.{OfferNote}
 use Rattle.desk_core.specs.declared.offer.Offer.{Offer}
 use Rattle.desk_core.specs.declared.reply.Reply.{Reply}
 use Rattle.desk_script.specs.Lines.{ScriptLine, asks, asks_status, settles, submits}
-use Rattle.script_runner.specs.Lines.{DoesLines, IsEntryOf, OffersBytes, client_lines, entries_under, is_request, is_request_line, requests_in}
+use Rattle.desk_script.specs.OwnLines.{AreOwnLines, submit_lines}
+use Rattle.session_desk.specs.Offers.{OffersBytes}
+use Rattle.script_runner.specs.Lines.{DoesLines, IsEntryOf, client_lines, entries_under, is_request, is_request_line, requests_in}
 
 -- ---- lines
 
@@ -61,9 +63,12 @@ pub record RepliesByItself (lines : List ScriptLine) (es : List FullEntry) : Typ
 
 -- ---- the desk
 
+-- The desk is closed, its journal is that of the clients' lines, every admitted job is in a registered batch, and what each client
+-- was replied, as entries and as lines of the transcript, is as its own lines determine by themselves.
 pub record ServesScript (clients : ℕ) (lines : List ScriptLine) (d : DeskRecord) : Type 0 where
   pub count : d.clients ≡ clients
   pub closed : d.closed ≡ true
   pub served : ServesLines clients lines (journal_of d)
   pub registered : AllRegistered (plain_of d)
   pub isolated : (c : ℕ) → c < clients → RepliesByItself (client_lines c lines) (entries_under c (journal_of d))
+  pub texts : (c : ℕ) → c < clients → AreOwnLines c lines (submit_lines c d.entries)

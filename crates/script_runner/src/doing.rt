@@ -1,20 +1,17 @@
-ghost use Rattle.std.specs.Prelude.{◌≡◌, ◌<◌, All, IfOk, map, []};
+ghost use Rattle.std.specs.Prelude.{◌<◌, All, IfOk, map, []};
 ghost use Rattle.desk_core.specs.DeskRecords.{plain_of};
 ghost use Rattle.desk_core.specs.GoodDesks.{IsGoodDesk};
-ghost use Rattle.desk_core.specs.Journals.{no_pie};
-ghost use Rattle.desk_core.specs.Turns.{IsTurn};
-ghost use Rattle.desk_core.specs.declared.event.Event.TheVariants.{Status};
 ghost use Rattle.desk_script.specs.Lines.{asks, asks_status, submits};
 ghost use Rattle.desk_script.specs.Views.{line_view};
 ghost use Rattle.script_runner.specs.Lines.{line_client};
 ghost use Rattle.script_runner.specs.Working.Doing.{DidLine, DidLines, NoneTaken, Settled};
 
-use crate::offers::offer_of;
 use batch_runner::Maker;
 use batch_workers::{WorkEnd, work_plain};
 use cairo_model::Fact;
-use desk_core::{Desk, Reply};
+use desk_core::Desk;
 use desk_script::Line;
+use session_desk::offer_of;
 use std::alloc::{AllocError, Global};
 use std::thread::Threads;
 
@@ -54,7 +51,7 @@ fn do_line<R: Threads + Sync, M: Maker>(
     match line {
         Line::Submit(client, bytes) => submit_bytes(alloc, desk, *client, bytes.as_slice()),
         Line::Ask(client, fact) => ask_fact(alloc, desk, *client, fact),
-        Line::Status(client, number) => ask_status(alloc, desk, *client, *number),
+        Line::Status(client, number) => ask_status(desk, *client, *number),
         Line::Settle(client) => settle(rt, alloc, desk, *client, maker),
     }
 }
@@ -82,30 +79,14 @@ fn ask_fact(alloc: Global, desk: &mut Desk, client: u32, fact: &Fact) -> Result<
     Ok(())
 }
 
-fn ask_status(alloc: Global, desk: &mut Desk, client: u32, number: u32) -> Result<(), AllocError>
+fn ask_status(desk: &mut Desk, client: u32, number: u32) -> Result<(), AllocError>
     requires client { client < desk.old.clients }
     requires free { NoneTaken (plain_of desk.old) }
     ensures did { IfOk result (λ _. DidLine (asks_status client number) desk.old desk.new) }
     ensures good { IsGoodDesk desk.old × IsGoodDesk desk.new }
 {
-    status(alloc, desk, client, client, number)?;
+    desk.status(client, client, number)?;
     Ok(())
-}
-
-// Stands in for `Desk::status`.
-fn status(
-    _alloc: Global,
-    desk: &mut Desk,
-    _pass: u32,
-    _client: u32,
-    _number: u32,
-) -> Result<Reply, AllocError>
-    requires { _client < desk.old.clients }
-    ensures ok { IfOk result (IsTurn desk.old desk.new _pass (Status _client _number) no_pie) }
-    ensures good { IsGoodDesk desk.old × IsGoodDesk desk.new }
-{
-    let _clients = desk.clients();
-    Err(AllocError)
 }
 
 /// Has this pass make all batches.

@@ -2,7 +2,6 @@
 #![tactic(auto)]
 
 mod doing;
-mod offers;
 mod running;
 
 pub use running::run_script;

@@ -1,11 +1,12 @@
 -- Scripts that were read and run: their lines' clients, and the certificates of the batches.
-use Rattle.std.proofs.Common.{◌≡◌, ℕ, zero, suc, ◌+◌, ◌<◌, ◌≤◌, Bool, true, false, cond, List, [], ◌∷◌, length, map, refl, sym, ap, ◌∙◌, subst, arith, ◌&&◌}
-use Rattle.std.specs.Prelude.{All, Option, Some, None, find, nat_le, nat_lt}
+use Rattle.std.proofs.Common.{◌≡◌, ℕ, zero, suc, ◌+◌, ◌<◌, ◌≤◌, ◌^◌, Bool, true, false, cond, List, [], ◌∷◌, length, map, refl, sym, ap, ◌∙◌, subst, arith, ◌&&◌}
+use Rattle.std.specs.Prelude.{All, Option, Some, None, find, nat_le, nat_lt, slice_get, slice_index_or}
 use Rattle.std.specs.Option.{option_map_or}
 use Rattle.std.proofs.lemmas.Bool.{le-leb, lt-ltb, ltb-true}
-use Rattle.std.proofs.lemmas.List.{length-map}
+use Rattle.std.proofs.lemmas.List.Sorted.{length_permutation}
 use Rattle.std.proofs.lemmas.List.Elements.{All-cons, All-head, All-nil, All-tail}
 use Rattle.batch_workers.specs.Works.{AllRegistered}
+use Rattle.desk_core.proofs.Turns.{jobs_few}
 use Rattle.desk_core.specs.DeskRecords.{DeskRecord, plain_batch, plain_of}
 use Rattle.desk_core.specs.Desks.{PlainBatch, PlainJob, has_job, told_of}
 use Rattle.desk_core.specs.GoodDesks.{IsGoodDesk, KeepsCert}
@@ -17,10 +18,15 @@ use Rattle.desk_core.specs.declared.phase.JobPhase.TheVariants as at
 use Rattle.desk_core.specs.declared.phase.Phase.{Phase}
 use Rattle.desk_core.specs.declared.phase.Phase.TheVariants as phase
 use Rattle.desk_script.specs.Lines.{IsScriptLine, ScriptLine, asks, asks_status, line_fields, settles, submits}
-use Rattle.desk_script.specs.Scripts.{AreScriptLines, IsScript, pieces_of}
+use Rattle.desk_script.specs.Scripts.{AreScriptLines, IsFirstBadScriptLine, IsScript, pieces_of}
+use Rattle.desk_script.specs.Views.{line_view}
+use Rattle.desk_script.specs.declared.kinds.ScriptRefusal.{ScriptRefusal}
+use Rattle.desk_script.specs.declared.line.Line.{Line}
 use Rattle.script_runner.specs.Lines.{line_client}
-use Rattle.shared_prover_cli.specs.Answers.Scripts.{RanScript}
-use Rattle.shared_prover_cli.specs.Working.Scripting.{AllCertified, IsCertified}
+use Rattle.script_runner.specs.Runs.{RunsScript}
+use Rattle.shared_prover_cli.specs.Answers.Scripts.{RanScript, TellsBadLine, TellsBatch, few_batches_text}
+use Rattle.shared_prover_cli.specs.Replies.{ReplyRecord}
+use Rattle.shared_prover_cli.specs.Working.Scripting.{AllCertified, IsCertified, IsFileOfBatch, NamesBadLine}
 
 -- ---- clients
 
@@ -96,3 +102,45 @@ all_certified d good all =
 
 pub ran_certified : (clients : ℕ) (bytes : List ℕ) (d : DeskRecord) → RanScript clients bytes d → AllCertified d.batches
 ran_certified clients bytes d r = all_certified d r.good r.runs.serves.registered
+
+-- ---- what is told
+
+pub tells_bad_line : (clients : ℕ) (bytes : List ℕ) (refusal : ScriptRefusal) (reply : ReplyRecord) → IsFirstBadScriptLine clients bytes refusal → NamesBadLine refusal reply → TellsBadLine clients bytes reply
+tells_bad_line clients bytes refusal reply first names = record { refusal = refusal; first = first; has_status = names.has_status; has_text = names.has_text }
+
+pub lines_below_clients : (lines : List Line) (clients : ℕ) (bytes : List ℕ) → IsScript clients bytes (map line_view lines) → All (λ (l : Line). line_client (line_view l) < clients) lines
+lines_below_clients lines clients bytes h = script_clients_below line_view lines clients bytes h
+
+pub ran_script : (clients : ℕ) (bytes : List ℕ) (lines : List ScriptLine) (d : DeskRecord) → IsScript clients bytes lines → RunsScript clients lines d → IsGoodDesk d → RanScript clients bytes d
+ran_script clients bytes lines d script runs good = record { lines = lines; is_script = script; runs = runs; good = good }
+
+at_index : (bs : List Batch) (b : ℕ) (batch : Batch) → b < length bs → batch ≡ slice_index_or bs b batch → slice_get bs b ≡ Some batch
+at_index [] b batch lt is = absurd (omega (arith, lt))
+at_index (x ∷ bs) zero batch lt is = ap (λ (y : Batch). Some y) (sym is)
+at_index (x ∷ bs) (suc b) batch lt is = at_index bs b batch (omega (arith, lt)) is
+
+past_all : (bs : List Batch) (b : ℕ) → length bs ≤ b → slice_get bs b ≡ None
+past_all [] b le = refl
+past_all (x ∷ bs) zero le = absurd (omega (arith, le))
+past_all (x ∷ bs) (suc b) le = past_all bs b (omega (arith, le))
+
+pub got_certified : (bs ds : List Batch) (b : ℕ) (batch : Batch) → bs ≡ ds → b < length bs → batch ≡ slice_index_or bs b batch → AllCertified ds → IsCertified batch
+got_certified bs ds b batch same lt is all = subst IsCertified (sym is) (subst AllCertified (sym same) all b batch lt)
+
+pub got_file : (bs ds : List Batch) (b : ℕ) (batch : Batch) (reply : ReplyRecord) → bs ≡ ds → b < length bs → batch ≡ slice_index_or bs b batch → IsFileOfBatch batch reply.text → reply.status ≡ 0
+    → TellsBatch b (length ds) (slice_get ds b) reply
+got_file bs ds b batch reply same lt is (cert, kept, file) status =
+    subst (λ (xs : List Batch). TellsBatch b (length xs) (slice_get xs b) reply) same
+    (subst (λ (o : Option Batch). TellsBatch b (length bs) o reply) (sym (at_index bs b batch lt is)) (record { cert = cert; kept = kept; has_status = status; is_file = file }))
+
+pub got_few : (bs ds : List Batch) (b : ℕ) (reply : ReplyRecord) → bs ≡ ds → length bs ≤ b → reply.status ≡ 1 → reply.text ≡ few_batches_text b (length bs) → TellsBatch b (length ds) (slice_get ds b) reply
+got_few bs ds b reply same le status text =
+    subst (λ (xs : List Batch). TellsBatch b (length xs) (slice_get xs b) reply) same
+    (subst (λ (o : Option Batch). TellsBatch b (length bs) o reply) (sym (past_all bs b le)) (record { has_status = status; has_text = text }))
+
+pub jobs_below : (d : DeskRecord) → IsGoodDesk d → length d.jobs < 2 ^ 32
+jobs_below d good = omega (arith, jobs_few d good)
+
+-- ---- by function
+
+pub ruleset desk_counts = (length_permutation, jobs_below)

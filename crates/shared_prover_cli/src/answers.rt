@@ -31,6 +31,7 @@ use std::alloc::Global;
 use std::thread::Threads;
 
 /// Reads the input of a command, if it has one, makes its reply, and hands out the desk at which it ran a script, if it did.
+#[tactic(auto, using(crate::proofs::ToldLemmas::told_replies))]
 pub fn reply_to<R: Threads + Sync, S: Source>(
     rt: &R,
     alloc: Global,

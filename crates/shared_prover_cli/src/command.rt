@@ -44,8 +44,10 @@ pub fn command_in(words: &[String]) -> Option<Command>
         }
         [word, first, clients, second, batch] => command_of_batch(
             word.as_str(),
-            (first.as_str(), clients.as_str()),
-            (second.as_str(), batch.as_str()),
+            first.as_str(),
+            clients.as_str(),
+            second.as_str(),
+            batch.as_str(),
         ),
         _ => None,
     }
@@ -91,24 +93,37 @@ fn command_for(word: &str, option: &str, number: &str) -> Option<Command>
     ensures found { IfSome result (λ command. (row_of command).asked_by (word.now ∷ option.now ∷ number.now ∷ [])) }
     ensures none { IfNone result ((command : Command) → IsPlainCommand command → ¬ ((row_of command).asked_by (word.now ∷ option.now ∷ number.now ∷ []))) }
 {
-    if word == "batch" && option == "--clients" {
-        let clients = number_in(number, LEAST_CLIENTS, MOST_CLIENTS)?;
-        Some(Command::Batch(clients))
-    } else {
-        None
+    if word != "batch" {
+        return None;
     }
+    if option != "--clients" {
+        return None;
+    }
+    let clients = number_in(number, LEAST_CLIENTS, MOST_CLIENTS)?;
+    Some(Command::Batch(clients))
 }
 
-// Of an option its name comes first, then its number.
-fn command_of_batch(word: &str, first: (&str, &str), second: (&str, &str)) -> Option<Command>
-    ensures found { IfSome result (λ command. (row_of command).asked_by (word.now ∷ first.0.now ∷ first.1.now ∷ second.0.now ∷ second.1.now ∷ [])) }
-    ensures none { IfNone result ((command : Command) → IsPlainCommand command → ¬ ((row_of command).asked_by (word.now ∷ first.0.now ∷ first.1.now ∷ second.0.now ∷ second.1.now ∷ []))) }
+// Of each option its name comes first, then its number.
+fn command_of_batch(
+    word: &str,
+    first: &str,
+    clients: &str,
+    second: &str,
+    batch: &str,
+) -> Option<Command>
+    ensures found { IfSome result (λ command. (row_of command).asked_by (word.now ∷ first.now ∷ clients.now ∷ second.now ∷ batch.now ∷ [])) }
+    ensures none { IfNone result ((command : Command) → IsPlainCommand command → ¬ ((row_of command).asked_by (word.now ∷ first.now ∷ clients.now ∷ second.now ∷ batch.now ∷ []))) }
 {
-    if word == "export" && first.0 == "--clients" && second.0 == "--batch" {
-        let clients = number_in(first.1, LEAST_CLIENTS, MOST_CLIENTS)?;
-        let batch = number_in(second.1, LEAST_BATCH, MOST_BATCH)?;
-        Some(Command::Export(clients, batch))
-    } else {
-        None
+    if word != "export" {
+        return None;
     }
+    if first != "--clients" {
+        return None;
+    }
+    if second != "--batch" {
+        return None;
+    }
+    let clients = number_in(clients, LEAST_CLIENTS, MOST_CLIENTS)?;
+    let batch = number_in(batch, LEAST_BATCH, MOST_BATCH)?;
+    Some(Command::Export(clients, batch))
 }

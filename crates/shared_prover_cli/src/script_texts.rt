@@ -34,6 +34,7 @@ pub fn few_batches_line(alloc: Global, batch: u32, count: usize) -> Result<Vec<u
 }
 
 /// The lines with the numbers of a desk.
+#[tactic(auto, using(crate::proofs::ScriptLemmas::desk_counts))]
 pub fn trial_lines(alloc: Global, desk: &Desk) -> Result<Vec<u8>, AllocError>
     requires good { IsGoodDesk desk.now }
     ensures { IfOk result (λ text. text.items ≡ trial_text desk.now) }

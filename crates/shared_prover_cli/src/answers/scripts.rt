@@ -4,9 +4,9 @@ ghost use Rattle.desk_core.specs.Limits.{most_clients};
 ghost use Rattle.desk_script.specs.Scripts.{IsFirstBadScriptLine};
 ghost use Rattle.work_maker.specs.Generator.{script_of};
 ghost use Rattle.work_maker.specs.Limits.{most_jobs, script_clients};
-ghost use Rattle.shared_prover_cli.specs.Answers.Scripts.{RanScript, ScriptAnswer, TellsBatchOf, TellsCertificate, TellsNumbers, TellsTranscript};
+ghost use Rattle.shared_prover_cli.specs.Answers.Scripts.{RanScript, ScriptAnswer, TellsBatchOf, TellsNumbers, TellsTranscript};
 ghost use Rattle.shared_prover_cli.specs.Working.Replies.{reply_view};
-ghost use Rattle.shared_prover_cli.specs.Working.Scripting.{AllCertified, IsCertified, NamesBadLine};
+ghost use Rattle.shared_prover_cli.specs.Working.Scripting.{AllCertified, IsCertified, IsFileOfBatch, NamesBadLine};
 
 use crate::reply::{Outcome, Reply};
 use crate::script_texts::{bad_line, few_batches_line, trial_lines};
@@ -23,6 +23,7 @@ use work_maker::limits::CLIENTS as SCRIPT_CLIENTS;
 use work_maker::make_script;
 
 /// The transcript of the script that the input is.
+#[tactic(auto, using(crate::proofs::ScriptLemmas::tells_bad_line))]
 pub fn batch_answer<R: Threads + Sync>(
     rt: &R,
     alloc: Global,
@@ -38,12 +39,16 @@ pub fn batch_answer<R: Threads + Sync>(
             reply: transcript_reply(alloc, &desk)?,
             desk: Some(desk),
         }),
-        Err(End::Refused(refusal)) => bad_script(alloc, refusal),
+        Err(End::Refused(refusal)) => Ok(Told {
+            reply: bad_line_reply(alloc, refusal)?,
+            desk: None,
+        }),
         Err(End::OutOfMemory) => Err(AllocError),
     }
 }
 
 /// The certificate of the batch of this number, of the script that the input is.
+#[tactic(auto, using(crate::proofs::ScriptLemmas::tells_bad_line))]
 pub fn export_answer<R: Threads + Sync>(
     rt: &R,
     alloc: Global,
@@ -60,12 +65,16 @@ pub fn export_answer<R: Threads + Sync>(
             reply: batch_reply(alloc, &desk, batch)?,
             desk: Some(desk),
         }),
-        Err(End::Refused(refusal)) => bad_script(alloc, refusal),
+        Err(End::Refused(refusal)) => Ok(Told {
+            reply: bad_line_reply(alloc, refusal)?,
+            desk: None,
+        }),
         Err(End::OutOfMemory) => Err(AllocError),
     }
 }
 
 /// The numbers of the script of so many jobs.
+#[tactic(auto, using(crate::proofs::ScriptLemmas::tells_bad_line))]
 pub fn trial_answer<R: Threads + Sync>(
     rt: &R,
     alloc: Global,
@@ -80,12 +89,16 @@ pub fn trial_answer<R: Threads + Sync>(
             reply: trial_reply(alloc, &desk)?,
             desk: Some(desk),
         }),
-        Err(End::Refused(refusal)) => bad_script(alloc, refusal),
+        Err(End::Refused(refusal)) => Ok(Told {
+            reply: bad_line_reply(alloc, refusal)?,
+            desk: None,
+        }),
         Err(End::OutOfMemory) => Err(AllocError),
     }
 }
 
 // The desk at which the script was run that the bytes are.
+#[tactic(auto, using(crate::proofs::ScriptLemmas::ran_script))]
 fn ran<R: Threads + Sync>(
     rt: &R,
     alloc: Global,
@@ -109,15 +122,12 @@ fn ran<R: Threads + Sync>(
 }
 
 // The reply to bytes that are no script.
-fn bad_script(alloc: Global, refusal: ScriptRefusal) -> Result<Told, AllocError>
-    ensures { IfOk result (λ told. NamesBadLine refusal (reply_view told.reply) told.desk) }
+fn bad_line_reply(alloc: Global, refusal: ScriptRefusal) -> Result<Reply, AllocError>
+    ensures { IfOk result (λ reply. NamesBadLine refusal (reply_view reply)) }
 {
-    Ok(Told {
-        reply: Reply {
-            outcome: Outcome::Script,
-            text: bad_line(alloc, refusal)?,
-        },
-        desk: None,
+    Ok(Reply {
+        outcome: Outcome::Script,
+        text: bad_line(alloc, refusal)?,
     })
 }
 
@@ -137,7 +147,10 @@ fn batch_reply(alloc: Global, desk: &Desk, number: u32) -> Result<Reply, AllocEr
 {
     let batches = desk.batches();
     match batches.get(number as usize) {
-        Some(batch) => certificate_reply(alloc, batch),
+        Some(batch) => Ok(Reply {
+            outcome: Outcome::Done,
+            text: certificate_file(alloc, batch)?,
+        }),
         None => Ok(Reply {
             outcome: Outcome::Refused,
             text: few_batches_line(alloc, number, batches.len())?,
@@ -145,16 +158,13 @@ fn batch_reply(alloc: Global, desk: &Desk, number: u32) -> Result<Reply, AllocEr
     }
 }
 
-// The certificate that a registered batch keeps.
-fn certificate_reply(alloc: Global, batch: &Batch) -> Result<Reply, AllocError>
+// The file of the certificate that a registered batch keeps.
+fn certificate_file(alloc: Global, batch: &Batch) -> Result<Vec<u8>, AllocError>
     requires kept { IsCertified batch.now }
-    ensures { IfOk result (λ reply. TellsCertificate batch.now (reply_view reply)) }
+    ensures { IfOk result (λ file. IsFileOfBatch batch.now file.items) }
 {
     match &batch.cert {
-        Some(cert) => Ok(Reply {
-            outcome: Outcome::Done,
-            text: write_cert(alloc, cert)?,
-        }),
+        Some(cert) => write_cert(alloc, cert),
         None => unreachable!(),
     }
 }
