@@ -90,11 +90,11 @@ module _ (d : DeskRecord) (g : IsGoodDesk d) (pass b : ℕ) where
       (stays ∙ ap (λ (u : Bool). cond u (after_give_back (plain_of d) b) (plain_of d)) (sym is))
       g.certs (g.registry ∙ ap registry_of (sym stays))
 
-pub back_leaves : (d : DeskRecord) (pass b : ℕ) (p : Phase) (o : Option ℕ) (r : Reply) (batches : List Batch) (entries : List Entry) (usages : List Usage) (batched next next' : ℕ) → IsKept d usages batched next
+pub back_leaves : (d : DeskRecord) (pass b : ℕ) (p : Phase) (o : Option ℕ) (r : Reply) (batches : List Batch) (entries : List Entry) (usages : List Usage) (places : List (Option ℕ)) (batched next next' : ℕ) → IsKept d usages places batched next
     → p ≡ phase_of_batch d.batches b → o ≡ held_number pass b (phase_of_batch d.batches b) → r ≡ given_back o p → batches ≡ batches_moved d.batches o phase.Sealed → next' ≡ earlier next o
     → entries ≡ d.entries ++ record { pass = pass; event = event.GiveBack b; reply = r } ∷ []
-    → Left d (record d { batches = batches; entries = entries; turns = (d.turns + 1) % 2 ^ 64 }) pass (event.GiveBack b) r usages batched next'
-back_leaves d pass b p o r batches entries usages batched next next' k p_is o_is r_is batches_are next_is entries_are =
+    → Left d (record d { batches = batches; entries = entries; turns = (d.turns + 1) % 2 ^ 64 }) pass (event.GiveBack b) r usages places batched next'
+back_leaves d pass b p o r batches entries usages places batched next next' k p_is o_is r_is batches_are next_is entries_are =
     let e : Event = event.GiveBack b in
     let at : phase_of_batch d.batches b ≡ phase_at (plain_of d) b = sym (phase_same d.batches b) in
     let t : Bool = is_taken_by pass (phase_at (plain_of d) b) in
@@ -113,6 +113,7 @@ back_leaves d pass b p o r batches entries usages batched next next' k p_is o_is
       kept = record {
         good = x.good;
         are_usages = k.are_usages;
+        are_places = k.are_places;
         is_batched = k.is_batched ∙ (batched_same d.batches o phase.Sealed ∙ ap jobs_batched (sym batches_are));
         is_next = next_is ∙ (ap (λ (n : ℕ). earlier n o) k.is_next ∙ (sym (earlier_is d.batches o) ∙ ap before_sealed (sym batches_are)));
       };

@@ -12,13 +12,17 @@ pub mod FactLemmas
 pub mod Entries
 pub mod Turns
 pub mod Usages
+pub mod Places
 pub mod SubmitTurn
 pub mod QuietTurns
 pub mod NextSealed
 pub mod SealTurn
 pub mod TakeTurn
 pub mod Isolated
+pub mod HandLemmas
+pub mod StaysLemmas
 pub mod PlainTurns
+pub mod TellTurn
 pub mod BackTurn
 pub mod SameLists
 pub mod RegisterTurn

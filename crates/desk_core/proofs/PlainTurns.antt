@@ -1,6 +1,6 @@
 -- Closing and asking are turns.
 use Rattle.std.proofs.Common.{◌≡◌, ◌↔◌, inl, inr, ℕ, ◌+◌, ◌%◌, ◌^◌, ◌<◌, Bool, true, false, cond, List, [], ◌∷◌, ◌++◌, map, refl, sym, ap, ◌∙◌, subst, arith}
-use Rattle.std.specs.Prelude.{Contains, IsTrue}
+use Rattle.std.specs.Prelude.{Contains, IsTrue, Option}
 use Rattle.std.specs.List.{list_any}
 use Rattle.cairo_model.specs.Pie.Acceptance.{FactRecord}
 use Rattle.cairo_model.specs.Pie.FactOrder.{same_fact}
@@ -25,11 +25,11 @@ use Rattle.desk_core.proofs.Entries.{registered_same}
 use Rattle.desk_core.proofs.QuietTurns.{Quiet, quiet, quiet_desk}
 
 -- what such a turn leaves
-pub record Left (d new : DeskRecord) (pass : ℕ) (e : Event) (r : Reply) (usages : List Usage) (batched next : ℕ) : Type 0 where
-  pub kept : IsKept new usages batched next
+pub record Left (d new : DeskRecord) (pass : ℕ) (e : Event) (r : Reply) (usages : List Usage) (places : List (Option ℕ)) (batched next : ℕ) : Type 0 where
+  pub kept : IsKept new usages places batched next
   pub turn : IsTurn d new pass e no_pie r
 
-module _ (d : DeskRecord) (pass : ℕ) (entries : List Entry) (usages : List Usage) (batched next : ℕ) (k : IsKept d usages batched next) where
+module _ (d : DeskRecord) (pass : ℕ) (entries : List Entry) (usages : List Usage) (places : List (Option ℕ)) (batched next : ℕ) (k : IsKept d usages places batched next) where
   -- ---- closing
 
   x : Entry
@@ -45,13 +45,13 @@ module _ (d : DeskRecord) (pass : ℕ) (entries : List Entry) (usages : List Usa
       (k.good.registry ∙ (λ i. registry_of (record { clients = d.clients; jobs = map plain_job d.jobs; batches = map plain_batch d.batches; registered = sym same i; closed = true })))
 
   pub closed_leaves : entries ≡ d.entries ++ record { pass = pass; event = event.Close; reply = reply.Closed } ∷ []
-      → Left d (record d { entries = entries; closed = true; turns = (d.turns + 1) % 2 ^ 64 }) pass event.Close reply.Closed usages batched next
+      → Left d (record d { entries = entries; closed = true; turns = (d.turns + 1) % 2 ^ 64 }) pass event.Close reply.Closed usages places batched next
   unfolding x
   closed_leaves are =
       let same : quiet_desk d pass event.Close reply.Closed d.batches d.registry true ≡ record d { entries = entries; closed = true; turns = (d.turns + 1) % 2 ^ 64 } =
       λ i. record d { entries = sym are i; closed = true; turns = (d.turns + 1) % 2 ^ 64 } in
       let q = subst (λ (n : DeskRecord). Quiet d n pass event.Close reply.Closed) same closed_turn in
-      record { kept = record { good = q.good; are_usages = k.are_usages; is_batched = k.is_batched; is_next = k.is_next }; turn = q.turn }
+      record { kept = record { good = q.good; are_usages = k.are_usages; are_places = k.are_places; is_batched = k.is_batched; is_next = k.is_next }; turn = q.turn }
 
 -- ---- asking
 
@@ -78,11 +78,11 @@ pub is_told : (held : Bool) (facts : List FactRecord) (fact : FactRecord) → Is
 is_told held facts fact tells =
     same_test held (list_any (same_fact fact) facts) (λ is. there_is_found facts fact (tells.0 is)) (λ found. tells.1 (found_is_there facts fact found))
 
-pub asked_leaves : (d : DeskRecord) (pass client : ℕ) (fact copy : FactRecord) (r : Reply) (entries : List Entry) (usages : List Usage) (batched next : ℕ) → IsKept d usages batched next → client < d.clients
+pub asked_leaves : (d : DeskRecord) (pass client : ℕ) (fact copy : FactRecord) (r : Reply) (entries : List Entry) (usages : List Usage) (places : List (Option ℕ)) (batched next : ℕ) → IsKept d usages places batched next → client < d.clients
     → copy ≡ fact → r ≡ yes_or_no (list_any (same_fact fact) d.registry) → entries ≡ d.entries ++ record { pass = pass; event = event.Ask client copy; reply = r } ∷ []
-    → Left d (record d { entries = entries; turns = (d.turns + 1) % 2 ^ 64 }) pass (event.Ask client fact) r usages batched next
+    → Left d (record d { entries = entries; turns = (d.turns + 1) % 2 ^ 64 }) pass (event.Ask client fact) r usages places batched next
 unfolding reply_to after_event
-asked_leaves d pass client fact copy r entries usages batched next k named copy_is r_is are =
+asked_leaves d pass client fact copy r entries usages places batched next k named copy_is r_is are =
     let e : Event = event.Ask client fact in
     let x : Entry = record { pass = pass; event = e; reply = r } in
     let by : r ≡ ask_reply (plain_of d) fact = r_is ∙ ap (λ (b : Bool). cond b reply.Yes reply.No) (ap (list_any (same_fact fact)) k.good.registry ∙ registry_tells (shown_facts (plain_of d)) fact) in
@@ -94,4 +94,4 @@ asked_leaves d pass client fact copy r entries usages batched next k named copy_
     let same : quiet_desk d pass e r d.batches d.registry d.closed ≡ record d { entries = entries; turns = (d.turns + 1) % 2 ^ 64 } =
     λ i. record d { entries = sym all i; turns = (d.turns + 1) % 2 ^ 64 } in
     let left = subst (λ (n : DeskRecord). Quiet d n pass e r) same q in
-    record { kept = record { good = left.good; are_usages = k.are_usages; is_batched = k.is_batched; is_next = k.is_next }; turn = left.turn }
+    record { kept = record { good = left.good; are_usages = k.are_usages; are_places = k.are_places; is_batched = k.is_batched; is_next = k.is_next }; turn = left.turn }

@@ -184,11 +184,11 @@ module _ (d : DeskRecord) (g : IsGoodDesk d) (pass b : ℕ) where
 found_is : (d : DeskRecord) (pass b : ℕ) (o : Option ℕ) → o ≡ held_number pass b (phase_of_batch d.batches b) → o ≡ cond (is_taken_by pass (phase_at (plain_of d) b)) (Some b) None
 found_is d pass b o o_is = o_is ∙ ap (held_number pass b) (sym (phase_same d.batches b))
 
-pub refused_leaves : (d : DeskRecord) (pass b : ℕ) (p : Phase) (o differs : Option ℕ) (r : Reply) (entries : List Entry) (usages : List Usage) (batched next : ℕ) → IsKept d usages batched next
+pub refused_leaves : (d : DeskRecord) (pass b : ℕ) (p : Phase) (o differs : Option ℕ) (r : Reply) (entries : List Entry) (usages : List Usage) (places : List (Option ℕ)) (batched next : ℕ) → IsKept d usages places batched next
     → p ≡ phase_of_batch d.batches b → o ≡ held_number pass b (phase_of_batch d.batches b) → is_welcome o differs ≡ false → r ≡ registering_reply o p differs
     → entries ≡ d.entries ++ record { pass = pass; event = event.Register b differs; reply = r } ∷ []
-    → Left d (record d { entries = entries; turns = (d.turns + 1) % 2 ^ 64 }) pass (event.Register b differs) r usages batched next
-refused_leaves d pass b p o differs r entries usages batched next k p_is o_is un r_is entries_are =
+    → Left d (record d { entries = entries; turns = (d.turns + 1) % 2 ^ 64 }) pass (event.Register b differs) r usages places batched next
+refused_leaves d pass b p o differs r entries usages places batched next k p_is o_is un r_is entries_are =
     let e : Event = event.Register b differs in
     let t : Bool = is_taken_by pass (phase_at (plain_of d) b) in
     let found : o ≡ cond t (Some b) None = found_is d pass b o o_is in
@@ -199,7 +199,16 @@ refused_leaves d pass b p o differs r entries usages batched next k p_is o_is un
     let same : quiet_desk d pass e r' d.batches d.registry d.closed ≡ record d { entries = entries; turns = (d.turns + 1) % 2 ^ 64 } = λ i. record d { entries = es i; turns = (d.turns + 1) % 2 ^ 64 } in
     let x : Quiet d (record d { entries = entries; turns = (d.turns + 1) % 2 ^ 64 }) pass e r =
     subst (λ (y : Reply). Quiet d (record d { entries = entries; turns = (d.turns + 1) % 2 ^ 64 }) pass e y) (sym said_is) (subst (λ (n : DeskRecord). Quiet d n pass e r') same q) in
-    record { kept = record { good = x.good; are_usages = k.are_usages; is_batched = k.is_batched; is_next = k.is_next }; turn = x.turn }
+    record {
+      kept = record {
+        good = x.good;
+        are_usages = k.are_usages;
+        are_places = k.are_places;
+        is_batched = k.is_batched;
+        is_next = k.is_next;
+      };
+      turn = x.turn;
+    }
 
 taken_is_open : (pass : ℕ) (p : Phase) → is_taken_by pass p ≡ true → is_sealed p ≡ false
 taken_is_open pass phase.Sealed is = absurd (cc)
@@ -217,20 +226,20 @@ welcome_same None differs is = absurd (cc)
 welcome_same (Some b) None is = refl
 welcome_same (Some b) (Some i) is = absurd (cc)
 
-pub record Registered (d new : DeskRecord) (pass b : ℕ) (differs : Option ℕ) (r : Reply) (certified : CertifiedRecord) (usages : List Usage) (batched next : ℕ) : Type 0 where
-  pub left : Left d new pass (event.Register b differs) r usages batched next
+pub record Registered (d new : DeskRecord) (pass b : ℕ) (differs : Option ℕ) (r : Reply) (certified : CertifiedRecord) (usages : List Usage) (places : List (Option ℕ)) (batched next : ℕ) : Type 0 where
+  pub left : Left d new pass (event.Register b differs) r usages places batched next
   pub is_registered : r ≡ reply.Registered
   pub keeps : KeepsJust new b certified
 
 pub registered_leaves : (d : DeskRecord) (pass b : ℕ) (p : Phase) (o differs : Option ℕ) (r : Reply) (certified : CertifiedRecord) (cert : CertRecord) (parcel : ParcelRecord) (registry facts : List FactRecord) (batches : List Batch) (entries : List Entry)
-    (usages : List Usage) (batched next : ℕ) → IsKept d usages batched next
+    (usages : List Usage) (places : List (Option ℕ)) (batched next : ℕ) → IsKept d usages places batched next
     → o ≡ held_number pass b (phase_of_batch d.batches b) → is_welcome o differs ≡ true → r ≡ registering_reply o p differs
     → cert ≡ certified.cert → parcel ≡ certified.parcel → AcceptsBatch cert parcel.tasks → AllStandIn cert parcel.tasks
     → IsFound certified.parcel.tasks (checked_in (jobs_numbered d.jobs d.batches b)) differs
     → facts ≡ facts_kept (jobs_numbered d.jobs d.batches b) → registry ≡ with_facts d.registry facts → batches ≡ certified_at d.batches b cert
     → entries ≡ d.entries ++ record { pass = pass; event = event.Register b differs; reply = r } ∷ []
-    → Registered d (record d { batches = batches; registry = registry; entries = entries; turns = (d.turns + 1) % 2 ^ 64 }) pass b differs r certified usages batched next
-registered_leaves d pass b p o differs r certified cert parcel registry facts batches entries usages batched next k o_is welcome r_is cert_is parcel_is accepts stands same_tasks facts_are registry_is batches_are entries_are =
+    → Registered d (record d { batches = batches; registry = registry; entries = entries; turns = (d.turns + 1) % 2 ^ 64 }) pass b differs r certified usages places batched next
+registered_leaves d pass b p o differs r certified cert parcel registry facts batches entries usages places batched next k o_is welcome r_is cert_is parcel_is accepts stands same_tasks facts_are registry_is batches_are entries_are =
     let t : Bool = is_taken_by pass (phase_at (plain_of d) b) in
     let found : o ≡ cond t (Some b) None = found_is d pass b o o_is in
     let none : differs ≡ None = welcome_same o differs welcome in
@@ -256,6 +265,7 @@ registered_leaves d pass b p o differs r certified cert parcel registry facts ba
         kept = record {
           good = y.good;
           are_usages = k.are_usages;
+          are_places = k.are_places;
           is_batched = k.is_batched ∙ (count_certified d.batches b certified.cert ∙ ap jobs_batched bs);
           is_next = k.is_next ∙ (next_certified d.batches b certified.cert (ap is_sealed at ∙ taken_is_open pass (phase_at (plain_of d) b) taken) ∙ ap before_sealed bs);
         };
@@ -300,8 +310,8 @@ refused_ends v new pass b certified o differs p r e un r_is e_is turn =
       go (Some k) None un turn = absurd (cc)
       go (Some k) (Some i) un turn = (turn, refl)
 
-pub registered_ends : (d v new : DeskRecord) (pass b : ℕ) (certified : CertifiedRecord) (differs : Option ℕ) (r : Reply) (usages : List Usage) (batched next : ℕ) → d ≡ v
+pub registered_ends : (d v new : DeskRecord) (pass b : ℕ) (certified : CertifiedRecord) (differs : Option ℕ) (r : Reply) (usages : List Usage) (places : List (Option ℕ)) (batched next : ℕ) → d ≡ v
     → IsFound certified.parcel.tasks (checked_in (jobs_numbered d.jobs d.batches b)) differs
-    → Registered d new pass b differs r certified usages batched next → IsRegistering v new pass b certified reply.Registered × KeepsJust new b certified
-registered_ends d v new pass b certified differs r usages batched next same found x =
+    → Registered d new pass b differs r certified usages places batched next → IsRegistering v new pass b certified reply.Registered × KeepsJust new b certified
+registered_ends d v new pass b certified differs r usages places batched next same found x =
     (subst (IsRegistering v new pass b certified) x.is_registered (registering d v new pass b certified differs r same found x.left.turn), x.keeps)

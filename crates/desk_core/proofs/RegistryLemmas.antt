@@ -1,5 +1,5 @@
 -- The registry has exactly the facts of the jobs in registered batches, and only a registration changes them.
-use Rattle.std.proofs.Common.{◌≡◌, inl, inr, ℕ, zero, suc, ◌+◌, List, [], ◌∷◌, ◌++◌, map, refl, sym, ap, ◌∙◌, subst, arith}
+use Rattle.std.proofs.Common.{◌≡◌, inl, inr, ℕ, zero, suc, List, [], ◌∷◌, ◌++◌, map, refl, sym, ap, ◌∙◌, subst, arith}
 use Rattle.std.specs.List.{flat_map}
 use Rattle.std.specs.Option.{option_map_or}
 use Rattle.std.specs.Prelude.{All, Contains, slice_get, None}
@@ -43,27 +43,27 @@ with_facts-append registry (x ∷ xs) ys = with_facts-append (with_fact registry
 
 -- ---- the jobs of the batches in a list
 
-flat_has : (f : ℕ → List PlainJob) (bs : List ℕ) (j : PlainJob) → Contains (flat_map f bs) j → (b : ℕ) × (Contains bs b × Contains (f b) j)
+pub flat_has : (f : ℕ → List PlainJob) (bs : List ℕ) (j : PlainJob) → Contains (flat_map f bs) j → (b : ℕ) × (Contains bs b × Contains (f b) j)
 flat_has f [] j h = no_member j h
 flat_has f (b ∷ bs) j h = elim (Contains-append_cases (f b) (flat_map f bs) j (subst (λ (js : List PlainJob). Contains js j) (flat_map-cons f b bs) h)) [
   | inl here ↦ (b, (in_head b bs b refl, here))
   | inr there ↦ let rest = flat_has f bs j there in (rest.0, (in_tail b bs rest.0 rest.1.0, rest.1.1))
 ]
 
-has_flat : (f : ℕ → List PlainJob) (bs : List ℕ) (b : ℕ) (j : PlainJob) → Contains bs b → Contains (f b) j → Contains (flat_map f bs) j
+pub has_flat : (f : ℕ → List PlainJob) (bs : List ℕ) (b : ℕ) (j : PlainJob) → Contains bs b → Contains (f b) j → Contains (flat_map f bs) j
 has_flat f [] b j at h = no_member b at
 has_flat f (c ∷ bs) b j at h = subst (λ (js : List PlainJob). Contains js j) (sym (flat_map-cons f c bs))
     (either_in c bs b at
     (λ same. Contains-append_left (f c) (flat_map f bs) j (subst (λ (k : ℕ). Contains (f k) j) (sym same) h))
     (λ there. Contains-append_right (f c) (flat_map f bs) j (has_flat f bs b j there h)))
 
-facts_have : (js : List PlainJob) (fact : FactRecord) → Contains (map (λ (j : PlainJob). fact_of j.pie) js) fact → (j : PlainJob) × (Contains js j × (fact_of j.pie ≡ fact))
+pub facts_have : (js : List PlainJob) (fact : FactRecord) → Contains (map (λ (j : PlainJob). fact_of j.pie) js) fact → (j : PlainJob) × (Contains js j × (fact_of j.pie ≡ fact))
 facts_have [] fact h = no_member fact h
 facts_have (j ∷ js) fact h = either_in (fact_of j.pie) _ fact h
     (λ same. (j, (in_head j js j refl, same)))
     (λ there. let rest = facts_have js fact there in (rest.0, (in_tail j js rest.0 rest.1.0, rest.1.1)))
 
-have_facts : (js : List PlainJob) (j : PlainJob) (fact : FactRecord) → Contains js j → fact_of j.pie ≡ fact → Contains (map (λ (x : PlainJob). fact_of x.pie) js) fact
+pub have_facts : (js : List PlainJob) (j : PlainJob) (fact : FactRecord) → Contains js j → fact_of j.pie ≡ fact → Contains (map (λ (x : PlainJob). fact_of x.pie) js) fact
 have_facts [] j fact h is = no_member j h
 have_facts (x ∷ js) j fact h is = either_in x js j h
     (λ same. in_head (fact_of x.pie) _ fact (ap (λ (y : PlainJob). fact_of y.pie) same ∙ is))

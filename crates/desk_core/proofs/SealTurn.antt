@@ -1,7 +1,7 @@
 -- A sealing is a turn.
 use Rattle.std.proofs.Common.{◌≡◌, ℕ, ◌+◌, ◌≤◌, ◌==◌, ◌%◌, ◌^◌, Bool, true, false, cond, List, [], ◌∷◌, ◌++◌, length, map, drop, refl, sym, ap, ◌∙◌, subst, arith}
 use Rattle.std.specs.List.{drop-map}
-use Rattle.std.specs.Prelude.{All, None, sum_by}
+use Rattle.std.specs.Prelude.{All, None, sum_by, Option}
 use Rattle.std.proofs.lemmas.Bool.{eqb-true}
 use Rattle.std.proofs.lemmas.Bool.Decides.{nat_tests}
 use Rattle.std.proofs.lemmas.List.{map-append, length-map}
@@ -124,15 +124,15 @@ next_then batches first count true = refl
 next_then batches first count false = still_before batches (record { first = first; count = count; phase = phase.Sealed; cert = None }) refl
 
 -- by what the calls left
-pub record Sealed (d new : DeskRecord) (pass : ℕ) (r : Reply) (usages : List Usage) (batched next : ℕ) : Type 0 where
-  pub kept : IsKept new usages batched next
+pub record Sealed (d new : DeskRecord) (pass : ℕ) (r : Reply) (usages : List Usage) (places : List (Option ℕ)) (batched next : ℕ) : Type 0 where
+  pub kept : IsKept new usages places batched next
   pub turn : IsTurn d new pass event.Seal no_pie r
 
-pub sealed_leaves : (d : DeskRecord) (pass first count : ℕ) (shapes : List Shape) (r : Reply) (batches : List Batch) (entries : List Entry) (usages : List Usage) (next : ℕ) → IsKept d usages first next
+pub sealed_leaves : (d : DeskRecord) (pass first count : ℕ) (shapes : List Shape) (r : Reply) (batches : List Batch) (entries : List Entry) (usages : List Usage) (places : List (Option ℕ)) (next : ℕ) → IsKept d usages places first next
     → shapes ≡ job_shapes (drop first d.jobs) → count ≡ longest_cut shapes → r ≡ sealed_with count d.closed (length d.batches)
     → batches ≡ sealed_batches d.batches first count → entries ≡ d.entries ++ record { pass = pass; event = event.Seal; reply = r } ∷ []
-    → Sealed d (record d { batches = batches; entries = entries; turns = (d.turns + 1) % 2 ^ 64 }) pass r usages (first + count) next
-sealed_leaves d pass first count shapes r batches entries usages next k shapes_are count_is r_is batches_are entries_are =
+    → Sealed d (record d { batches = batches; entries = entries; turns = (d.turns + 1) % 2 ^ 64 }) pass r usages places (first + count) next
+sealed_leaves d pass first count shapes r batches entries usages places next k shapes_are count_is r_is batches_are entries_are =
     let cut_is : count ≡ longest_cut (job_shapes (drop first d.jobs)) = count_is ∙ ap longest_cut shapes_are in
     let none : Bool = length (job_shapes (drop first d.jobs)) == 0 in
     let x = sealed_at d k.good pass first count k.is_batched cut_is none refl in
@@ -149,6 +149,7 @@ sealed_leaves d pass first count shapes r batches entries usages next k shapes_a
       kept = record {
         good = q.good;
         are_usages = k.are_usages;
+        are_places = k.are_places;
         is_batched = batched_then d.batches first count (count == 0) refl k.is_batched ∙ ap jobs_batched (sym batches_are);
         is_next = k.is_next ∙ (next_then d.batches first count (count == 0) ∙ ap before_sealed (sym batches_are));
       };

@@ -1,5 +1,5 @@
 -- What Next gives keeps a desk sound.
-use Rattle.std.proofs.Common.{◌≡◌, ◌≢◌, ℕ, ◌+◌, ◌==◌, Bool, true, false, cond, [], ◌∷◌, ◌++◌, length, refl, ap, ◌∙◌, subst}
+use Rattle.std.proofs.Common.{◌≡◌, ◌≢◌, ℕ, ◌==◌, Bool, true, false, cond, [], ◌∷◌, ◌++◌, length, refl, ap, ◌∙◌, subst}
 use Rattle.std.specs.Prelude.{Option, Some, None, slice_index_or}
 use Rattle.std.proofs.lemmas.List.Quantifiers.{position-Some}
 use Rattle.cairo_model.specs.Pie.Records.{PieRecord}
@@ -35,7 +35,7 @@ sealed_is (phase.Taken k) e = absurd (cc)
 sealed_is phase.Registered e = absurd (cc)
 sealed_is phase.NoBatch e = absurd (cc)
 
-taken_is : (pass : ℕ) (p : Phase) → is_taken_by pass p ≡ true → (p ≢ phase.NoBatch) × (p ≢ phase.Registered)
+pub taken_is : (pass : ℕ) (p : Phase) → is_taken_by pass p ≡ true → (p ≢ phase.NoBatch) × (p ≢ phase.Registered)
 taken_is pass phase.Sealed e = absurd (cc)
 taken_is pass (phase.Taken k) e = ((λ q. cc), (λ q. cc))
 taken_is pass phase.Registered e = absurd (cc)

@@ -10,7 +10,8 @@ use Rattle.desk_core.specs.DeskRecords.{DeskRecord, admitted_in, full_entries, j
 use Rattle.desk_core.specs.GoodDesks.{HasCert, IsAcceptedJob, IsGoodDesk, KeepsCert}
 use Rattle.desk_core.specs.Turns.{IsTurn, offer_note, pie_of}
 use Rattle.desk_core.specs.Working.Steps.{AcceptedOffer, IsSmallUsage, admitted_jobs, reply_by_usage, used_after}
-use Rattle.desk_core.specs.Desks.{PlainDesk, PlainJob, jobs_of, shapes_of}
+use Rattle.desk_core.specs.Working.Telling.{HasPlace, places_after}
+use Rattle.desk_core.specs.Desks.{PlainDesk, jobs_of, shapes_of}
 use Rattle.desk_core.specs.SoundDesks.{IsBatchOf}
 use Rattle.desk_core.specs.Journals.{HasItsPie}
 use Rattle.desk_core.specs.Quotas.{is_admitted}
@@ -29,7 +30,7 @@ use Rattle.desk_core.specs.declared.reply.Reply.TheVariants as reply
 use Rattle.desk_core.proofs.Entries.{full_same, full_new, admitted_more, registered_same}
 use Rattle.desk_core.proofs.FactLemmas.{fact_is}
 use Rattle.desk_core.proofs.ListFacts.{stretch_more}
-use Rattle.desk_core.proofs.QuotaLemmas.{number_is}
+use Rattle.desk_core.proofs.Places.{has_place, next_number, places_kept}
 use Rattle.desk_core.proofs.RegistryLemmas.{facts_with_job}
 use Rattle.desk_core.specs.Kept.{IsKept, usage_of}
 use Rattle.desk_core.specs.declared.usage.Usage.{Usage}
@@ -104,12 +105,8 @@ module _ (d : DeskRecord) (g : IsGoodDesk d) (pass client : ℕ) (named : client
     f : Entry
     f = record { pass = pass; event = event.Submit client (offer_note (offer.Accepted c)); reply = reply.Admitted k }
 
-    unclosed : (closed : Bool) (q : Reply) → reply.Admitted k ≡ cond closed reply.Closed q → q ≡ reply.Admitted k
-    unclosed true q is = absurd (cc)
-    unclosed false q is = sym is
-
     number : k ≡ length (jobs_of client (map plain_job d.jobs))
-    number = sym (number_is (shapes_of client (map plain_job d.jobs)) (shape_of c.pie) k (unclosed d.closed _ by)) ∙ length-map (jobs_of client (map plain_job d.jobs)) (λ (j : PlainJob). shape_of j.pie)
+    number = next_number (map plain_job d.jobs) d.closed client k (shape_of c.pie) by
 
     new_job : Job
     new_job = record { client = client; number = k; checked = c }
@@ -172,16 +169,16 @@ module _ (d : DeskRecord) (g : IsGoodDesk d) (pass client : ℕ) (named : client
         good_after d (submitted_desk d pass client o r) g pass (event.Submit client (offer_note o)) (pie_of o) r all.turn named all.has all.left.accepted all.left.certs all.left.registry all.left.counts
 
 -- by what the calls left
-pub record Submitted (d : DeskRecord) (pass client : ℕ) (o : Offer) (r : Reply) (new : DeskRecord) (usages : List Usage) (batched next : ℕ) : Type 0 where
-  pub kept : IsKept new usages batched next
+pub record Submitted (d : DeskRecord) (pass client : ℕ) (o : Offer) (r : Reply) (new : DeskRecord) (usages : List Usage) (places : List (Option ℕ)) (batched next : ℕ) : Type 0 where
+  pub kept : IsKept new usages places batched next
   pub turn : IsTurn d new pass (event.Submit client (offer_note o)) (pie_of o) r
 
-pub submitted_leaves : (d : DeskRecord) (pass client : ℕ) (o : Offer) (r : Reply) (n : OfferNote) (u : Usage) (usages usages' : List Usage) (batched next : ℕ) (jobs : List Job) (entries : List Entry)
-    → IsKept d usages batched next → client < d.clients → AcceptedOffer o → n ≡ offer_note o → Some u ≡ slice_get usages client → r ≡ reply_by_usage u d.closed n
-    → usages' ≡ slice_set usages client (used_after u n r)
+pub submitted_leaves : (d : DeskRecord) (pass client : ℕ) (o : Offer) (r : Reply) (n : OfferNote) (u : Usage) (usages usages' : List Usage) (places places' : List (Option ℕ)) (batched next : ℕ) (jobs : List Job) (entries : List Entry)
+    → IsKept d usages places batched next → client < d.clients → AcceptedOffer o → n ≡ offer_note o → Some u ≡ slice_get usages client → r ≡ reply_by_usage u d.closed n
+    → usages' ≡ slice_set usages client (used_after u n r) → places' ≡ places_after places client n r (length d.jobs)
     → jobs ≡ admitted_jobs d.jobs client o r → entries ≡ d.entries ++ record { pass = pass; event = event.Submit client n; reply = r } ∷ []
-    → Submitted d pass client o r (record d { jobs = jobs; entries = entries; turns = (d.turns + 1) % 2 ^ 64 }) usages' batched next
-submitted_leaves d pass client o r n u usages usages' batched next jobs entries k named acc n_is u_is by usages_are jobs_is entries_is =
+    → Submitted d pass client o r (record d { jobs = jobs; entries = entries; turns = (d.turns + 1) % 2 ^ 64 }) usages' places' batched next
+submitted_leaves d pass client o r n u usages usages' places places' batched next jobs entries k named acc n_is u_is by usages_are places_are jobs_is entries_is =
     let own : u ≡ usage_of (shapes_of client (map plain_job d.jobs)) = some_same (u_is ∙ k.are_usages client named) in
     let by' : r ≡ offered_reply (map plain_job d.jobs) d.closed client (offer_note o) = by ∙ ((λ i. reply_by_usage (own i) d.closed (n_is i)) ∙ by_usage (map plain_job d.jobs) d.closed client (offer_note o)) in
     let es : entries ≡ d.entries ++ record { pass = pass; event = event.Submit client (offer_note o); reply = r } ∷ [] =
@@ -189,11 +186,12 @@ submitted_leaves d pass client o r n u usages usages' batched next jobs entries 
     let same : submitted_desk d pass client o r ≡ record d { jobs = jobs; entries = entries; turns = (d.turns + 1) % 2 ^ 64 } =
     λ i. record d { jobs = sym jobs_is i; entries = sym es i; turns = (d.turns + 1) % 2 ^ 64 } in
     let set : usages' ≡ slice_set usages client (used_after (usage_of (shapes_of client (map plain_job d.jobs))) (offer_note o) r) = usages_are ∙ (λ i. slice_set usages client (used_after (own i) (n_is i) r)) in
-    subst (λ (new : DeskRecord). Submitted d pass client o r new usages' batched next) same
+    subst (λ (new : DeskRecord). Submitted d pass client o r new usages' places' batched next) same
     (record {
       kept = record {
         good = submit_good d k.good pass client named o r acc by';
         are_usages = usages_kept d usages usages' client named k.are_usages o r set;
+        are_places = places_kept d k.good places k.are_places client named places' o r by' (places_are ∙ ap (λ (x : OfferNote). places_after places client x r (length d.jobs)) n_is);
         is_batched = k.is_batched;
         is_next = k.is_next;
       };
@@ -201,6 +199,13 @@ submitted_leaves d pass client o r n u usages usages' batched next jobs entries 
     })
 
 -- what the code needs of a usage
-pub small_usage : (d : DeskRecord) (usages : List Usage) (batched next client : ℕ) (u : Usage) → IsKept d usages batched next → client < d.clients → Some u ≡ slice_get usages client → IsSmallUsage u
-small_usage d usages batched next client u k named is =
+pub small_usage : (d : DeskRecord) (usages : List Usage) (places : List (Option ℕ)) (batched next client : ℕ) (u : Usage) → IsKept d usages places batched next → client < d.clients → Some u ≡ slice_get usages client → IsSmallUsage u
+small_usage d usages places batched next client u k named is =
     subst IsSmallUsage (sym (some_same (is ∙ k.are_usages client named))) (usage_small d k.good client)
+
+-- the table has a place for what the reply admits
+pub place_there : (d : DeskRecord) (usages : List Usage) (places : List (Option ℕ)) (batched next client : ℕ) (u : Usage) (n : OfferNote) (r : Reply) → IsKept d usages places batched next → client < d.clients
+    → Some u ≡ slice_get usages client → r ≡ reply_by_usage u d.closed n → HasPlace places client n r
+place_there d usages places batched next client u n r k named is by =
+    let own : u ≡ usage_of (shapes_of client (map plain_job d.jobs)) = some_same (is ∙ k.are_usages client named) in
+    has_place d k.good places k.are_places client named n r (by ∙ (ap (λ (x : Usage). reply_by_usage x d.closed n) own ∙ by_usage (map plain_job d.jobs) d.closed client n))

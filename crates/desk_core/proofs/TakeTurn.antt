@@ -91,15 +91,15 @@ batches_still_few (x ∷ bs) (Some zero) p = refl
 batches_still_few (x ∷ bs) (Some (suc b)) p = ap length (moved_step x bs b p) ∙ ap suc (batches_still_few bs (Some b) p)
 
 -- by what the calls left
-pub record Taken (d new : DeskRecord) (pass : ℕ) (r : Reply) (usages : List Usage) (batched next : ℕ) : Type 0 where
-  pub kept : IsKept new usages batched next
+pub record Taken (d new : DeskRecord) (pass : ℕ) (r : Reply) (usages : List Usage) (places : List (Option ℕ)) (batched next : ℕ) : Type 0 where
+  pub kept : IsKept new usages places batched next
   pub turn : IsTurn d new pass event.Take no_pie r
 
-pub taken_leaves : (d : DeskRecord) (pass : ℕ) (o : Option ℕ) (r : Reply) (batches : List Batch) (entries : List Entry) (usages : List Usage) (batched next next' : ℕ) → IsKept d usages batched next
+pub taken_leaves : (d : DeskRecord) (pass : ℕ) (o : Option ℕ) (r : Reply) (batches : List Batch) (entries : List Entry) (usages : List Usage) (places : List (Option ℕ)) (batched next next' : ℕ) → IsKept d usages places batched next
     → o ≡ sealed_number next (length d.batches) → r ≡ taken_by o → batches ≡ batches_moved d.batches o (phase.Taken pass) → next' ≡ before_sealed batches
     → entries ≡ d.entries ++ record { pass = pass; event = event.Take; reply = r } ∷ []
-    → Taken d (record d { batches = batches; entries = entries; turns = (d.turns + 1) % 2 ^ 64 }) pass r usages batched next'
-taken_leaves d pass o r batches entries usages batched next next' k o_is r_is batches_are next_is entries_are =
+    → Taken d (record d { batches = batches; entries = entries; turns = (d.turns + 1) % 2 ^ 64 }) pass r usages places batched next'
+taken_leaves d pass o r batches entries usages places batched next next' k o_is r_is batches_are next_is entries_are =
     let first : first_sealed (plain_of d) ≡ o = first_is d ∙ (ap (λ (n : ℕ). sealed_number n (length d.batches)) (sym k.is_next) ∙ sym o_is) in
     let q = taken_at d k.good pass o first in
     let es : d.entries ++ record { pass = pass; event = event.Take; reply = taken_by o } ∷ [] ≡ entries =
@@ -113,6 +113,7 @@ taken_leaves d pass o r batches entries usages batched next next' k o_is r_is ba
       kept = record {
         good = x.good;
         are_usages = k.are_usages;
+        are_places = k.are_places;
         is_batched = k.is_batched ∙ (batched_same d.batches o (phase.Taken pass) ∙ ap jobs_batched (sym batches_are));
         is_next = next_is;
       };
@@ -171,8 +172,8 @@ pub goes_out : (d : DeskRecord) → IsGoodDesk d → (seen : List Batch) (jobs :
 goes_out d g seen jobs seen_is jobs_is b x e =
     subst (λ (js : List Job). CanGoOut js x) (sym jobs_is) (in_order d.jobs d.batches g.sound.batches b x (subst (λ (bs : List Batch). slice_get bs b ≡ Some x) seen_is e))
 
-pub handed : (d : DeskRecord) (usages : List Usage) (batched next : ℕ) → IsKept d usages batched next → (o : Option ℕ) (r : Reply) → r ≡ taken_by o → parcel_at d.jobs d.batches o ≡ handed_out d r
-handed d usages batched next k o r is = go o ∙ ap (handed_out d) (sym is) where
+pub handed : (d : DeskRecord) (usages : List Usage) (places : List (Option ℕ)) (batched next : ℕ) → IsKept d usages places batched next → (o : Option ℕ) (r : Reply) → r ≡ taken_by o → parcel_at d.jobs d.batches o ≡ handed_out d r
+handed d usages places batched next k o r is = go o ∙ ap (handed_out d) (sym is) where
   go : (x : Option ℕ) → parcel_at d.jobs d.batches x ≡ handed_out d (taken_by x)
   go None = refl
   go (Some b) = refl

@@ -1,5 +1,5 @@
 -- A turn keeps a desk good.
-use Rattle.std.proofs.Common.{◌≡◌, ℕ, ◌+◌, ◌≤◌, Bool, true, false, cond, List, [], ◌∷◌, ◌++◌, length, map, refl, sym, ap, ◌∙◌, subst, arith}
+use Rattle.std.proofs.Common.{◌≡◌, ℕ, ◌≤◌, Bool, true, false, cond, List, [], ◌∷◌, ◌++◌, length, map, refl, sym, ap, ◌∙◌, subst, arith}
 use Rattle.std.specs.Prelude.{All, Some, None, unwrap_or}
 use Rattle.std.proofs.lemmas.List.{length-map}
 use Rattle.cairo_model.specs.Pie.Records.{PieRecord}

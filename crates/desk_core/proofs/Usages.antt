@@ -1,6 +1,6 @@
 -- Each client's usage stays that of its own jobs.
 use Rattle.std.proofs.Common.{◌≡◌, ◌≢◌, ◌⊎◌, inl, inr, ℕ, zero, suc, ◌+◌, ◌<◌, ◌==◌, Bool, true, false, cond, List, [], ◌∷◌, ◌++◌, length, map, refl, sym, ap, ◌∙◌, subst, arith, length-append}
-use Rattle.std.specs.Prelude.{Some, slice_get, slice_set}
+use Rattle.std.specs.Prelude.{Option, Some, replicate, slice_get, slice_set}
 use Rattle.std.proofs.lemmas.Bool.{eq-eqb}
 use Rattle.std.proofs.lemmas.Bool.Decides.{eqb_tells}
 use Rattle.std.proofs.lemmas.List.{map-append}
@@ -44,8 +44,8 @@ has_index [] c u is = absurd (cc)
 has_index (x ∷ us) zero u is = omega arith
 has_index (x ∷ us) (suc c) u is = omega (arith, has_index us c u is)
 
-pub usage_there : (d : DeskRecord) (usages : List Usage) (batched next client : ℕ) → IsKept d usages batched next → client < d.clients → client < length usages
-usage_there d usages batched next client k named = has_index usages client _ (k.are_usages client named)
+pub usage_there : (d : DeskRecord) (usages : List Usage) (places : List (Option ℕ)) (batched next client : ℕ) → IsKept d usages places batched next → client < d.clients → client < length usages
+usage_there d usages places batched next client k named = has_index usages client _ (k.are_usages client named)
 
 usage_more : (ss : List Shape) (s : Shape) → usage_of (ss ++ s ∷ []) ≡ record { pies = length ss + 1; steps = steps_together ss + s.steps; cells = cells_together ss + s.size }
 usage_more ss s =
@@ -110,3 +110,14 @@ usages_kept d usages usages' client named are o r set c there = subst (λ (us : 
   by_client : (((client == c) ≡ true) × (client ≡ c)) ⊎ (((client == c) ≡ false) × (client ≢ c)) → Holds (slice_set usages client used) c
   by_client (inl same) = subst (Holds (slice_set usages client used)) same.1 own
   by_client (inr other) = set_else usages client c used other.1 ∙ (are c there ∙ ap Some (sym (chosen c false other.0)))
+
+-- ---- the usages of an empty desk
+
+nothing_used : (n c : ℕ) → c < n → slice_get (replicate n (usage_of [])) c ≡ Some (usage_of [])
+nothing_used zero c lt = absurd (omega (arith, lt))
+nothing_used (suc n) zero lt = refl
+nothing_used (suc n) (suc c) lt = nothing_used n c (omega (arith, lt))
+
+pub new_usages : (d : DeskRecord) (usages : List Usage) → d.jobs ≡ [] → usages ≡ replicate d.clients (usage_of []) → AreUsages d usages
+new_usages d usages none all c lt =
+    ap (λ (us : List Usage). slice_get us c) all ∙ (nothing_used d.clients c lt ∙ ap (λ (js : List Job). Some (usage_of (shapes_of c (map plain_job js)))) (sym none))

@@ -12,4 +12,6 @@ pub mod GoodDesks
 pub mod Turns
 pub mod Kept
 pub mod Registrations
+pub mod Hands
+pub mod Stays
 pub mod Working

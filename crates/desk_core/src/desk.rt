@@ -19,6 +19,8 @@ pub struct Desk {
     pub(crate) turns: u64,
     /// Of each client.
     pub(crate) usages: Vec<Usage>,
+    /// Of each client, the index of its job of each number (`MOST_CLIENT_PIES` places a client).
+    pub(crate) places: Vec<Option<u32>>,
     /// How many jobs are in batches.
     pub(crate) batched: u32,
     /// How many batches stand before the first sealed one.
@@ -33,5 +35,5 @@ impl Model for Desk {
 
     ghost view = { λ d. record { clients = d.clients; jobs = d.jobs.items; batches = d.batches.items; registry = d.registry; entries = d.entries.items; closed = d.closed; turns = d.turns } };
 
-    ghost invariant = { λ d. IsKept (record { clients = d.clients; jobs = d.jobs.items; batches = d.batches.items; registry = d.registry; entries = d.entries.items; closed = d.closed; turns = d.turns }) d.usages.items d.batched d.next };
+    ghost invariant = { λ d. IsKept (record { clients = d.clients; jobs = d.jobs.items; batches = d.batches.items; registry = d.registry; entries = d.entries.items; closed = d.closed; turns = d.turns }) d.usages.items d.places.items d.batched d.next };
 }

@@ -21,6 +21,7 @@ mod register_end;
 mod reply;
 mod same_tasks;
 mod seal;
+mod status;
 mod submit;
 mod take;
 mod usage;
@@ -31,7 +32,8 @@ pub use entry::{Entry, FullEntry};
 pub use event::{Event, OfferNote};
 pub use job::Job;
 pub use laws::{
-    cut_is_longest, isolation, journals_are_isolated, legal_is_kept, registry_law, sound_is_kept,
+    cut_is_longest, hand_law, hold_laws, isolation, journals_are_isolated, legal_is_kept,
+    registered_laws, registry_law, sound_is_kept, stays_law,
 };
 pub use offer::Offer;
 pub use phase::{JobPhase, Phase};

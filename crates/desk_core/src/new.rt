@@ -1,9 +1,10 @@
-ghost use Rattle.std.specs.Prelude.{◌≡◌, ◌≤◌, [], replicate, IfOk};
+ghost use Rattle.std.specs.Prelude.{◌≡◌, ◌≤◌, [], replicate, ◌*◌, None, IfOk};
 ghost use Rattle.desk_core.specs.Kept.{usage_of};
-ghost use Rattle.desk_core.specs.Limits.{most_clients};
+ghost use Rattle.desk_core.specs.Limits.{most_client_pies, most_clients};
 ghost use Rattle.desk_core.specs.Turns.{IsNewDesk};
 
 use crate::desk::Desk;
+use crate::limits::MOST_CLIENT_PIES;
 use crate::usage::Usage;
 use fact_registry::Registry;
 use std::alloc::{AllocError, Global};
@@ -24,6 +25,7 @@ impl Desk {
             closed: false,
             turns: 0,
             usages: no_usages(alloc, clients)?,
+            places: no_places(alloc, clients)?,
             batched: 0,
             next: 0,
         })
@@ -40,4 +42,11 @@ fn no_usages(alloc: Global, clients: u32) -> Result<Vec<Usage>, AllocError>
         cells: 0,
     };
     vec![in alloc; none; clients as usize]
+}
+
+// A table for so many clients with no job in it.
+fn no_places(alloc: Global, clients: u32) -> Result<Vec<Option<u32>>, AllocError>
+    ensures { IfOk result (λ places. places.items ≡ replicate (clients * most_client_pies) None) }
+{
+    vec![in alloc; None; clients as usize * MOST_CLIENT_PIES as usize]
 }

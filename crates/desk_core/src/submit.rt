@@ -1,7 +1,8 @@
-ghost use Rattle.std.specs.Prelude.{◌≡◌, ◌<◌, ◌++◌, [], ◌∷◌, vec_len, vec_capacity, IfOk, OnErr};
+ghost use Rattle.std.specs.Prelude.{◌≡◌, ◌<◌, ◌++◌, [], ◌∷◌, ◌≤◌, length, vec_len, vec_capacity, IfOk, OnErr};
 ghost use Rattle.desk_core.specs.GoodDesks.{IsGoodDesk};
 ghost use Rattle.desk_core.specs.Turns.{IsTurn, JournalIsIsolated, offer_note, pie_of, turned};
-ghost use Rattle.desk_core.specs.Working.Steps.{AcceptedOffer, admitted_jobs};
+ghost use Rattle.desk_core.specs.Working.Steps.{AcceptedOffer, admitted_jobs, most_jobs};
+ghost use Rattle.desk_core.specs.Working.Telling.{HasPlace, places_after};
 ghost use Rattle.desk_core.specs.declared.event.Event.TheVariants.{Submit};
 
 use crate::desk::Desk;
@@ -11,6 +12,7 @@ use crate::job::Job;
 use crate::offer::Offer;
 use crate::quota::{offered_reply, set_usage, usage_at, used};
 use crate::reply::Reply;
+use crate::status::place;
 use std::alloc::{AllocError, Global};
 
 impl Desk {
@@ -33,8 +35,10 @@ impl Desk {
         self.jobs.reserve(1)?;
         self.entries.reserve(1)?;
         let usage = usage_at(self.usages.as_slice(), client);
+        let count = count_of(self.jobs.as_slice());
         let reply = offered_reply(&usage, self.closed, &note);
         set_usage(&mut self.usages, client, used(&usage, &note, &reply));
+        set_place(&mut self.places, client, &note, &reply, count);
         admit(&mut self.jobs, client, offer, &reply);
         write(&mut self.entries, pass, Event::Submit(client, note), &reply);
         Ok(reply)
@@ -54,6 +58,29 @@ fn noted(alloc: Global, offer: &Offer) -> Result<OfferNote, AllocError>
             Ok(OfferNote::Accepted(checked.shape(), fact))
         }
         Offer::Refused(refusal) => Ok(OfferNote::Refused(*refusal)),
+    }
+}
+
+fn count_of(jobs: &[Job]) -> u32
+    requires { length jobs.now ≤ most_jobs }
+    ensures { result ≡ length jobs.now }
+{
+    jobs.len() as u32
+}
+
+// Puts the job's index into the table where the reply admits it, so many jobs being there before.
+fn set_place(
+    places: &mut Vec<Option<u32>>,
+    client: u32,
+    note: &OfferNote,
+    reply: &Reply,
+    count: u32,
+)
+    requires { HasPlace places.old.items client note.now reply.now }
+    ensures { places.new.items ≡ places_after places.old.items client note.now reply.now count }
+{
+    if let (OfferNote::Accepted(_, _), Reply::Admitted(number)) = (note, *reply) {
+        places[place(client, number)] = Some(count);
     }
 }
 

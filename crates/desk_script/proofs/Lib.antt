@@ -9,3 +9,4 @@ pub mod ReadLines
 pub mod Walks
 pub mod Refusing
 pub mod OneReading
+pub mod OwnLineLemmas

@@ -1,5 +1,6 @@
 ghost use Rattle.std.specs.Prelude.{ℕ, ◌≡◌, ◌≤◌, ◌^◌, List};
 ghost use Rattle.desk_script.specs.Lines.{ScriptLine};
+ghost use Rattle.desk_script.specs.OwnLines.{DesksHaveOwnLines, JournalsHaveOwnLines, ScriptsHaveOwnLines};
 ghost use Rattle.desk_script.specs.Scripts.{IsFirstBadScriptLine, IsScript};
 
 use crate::kinds::ScriptRefusal;
@@ -17,4 +18,13 @@ pub fn script_is_not_refused()
 /// Bytes have one first bad line at most, and it breaks one rule first.
 pub fn one_script_refusal()
     ensures { (clients : ℕ) (bytes : List ℕ) (a b : ScriptRefusal) → IsFirstBadScriptLine clients bytes a → IsFirstBadScriptLine clients bytes b → a ≡ b }
+{}
+
+/// Before the first close, the transcript's submit lines of a client are those that its own offers determine by themselves: in
+/// each legal journal, and so in that of each desk. Where it offers in time just what its lines of a script hand in, all its
+/// submit lines are those of these lines.
+pub fn own_lines_laws()
+    ensures journals { JournalsHaveOwnLines }
+    ensures desks { DesksHaveOwnLines }
+    ensures scripts { ScriptsHaveOwnLines }
 {}

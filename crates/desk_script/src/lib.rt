@@ -15,7 +15,7 @@ mod transcripts;
 mod verb;
 
 pub use kinds::{ScriptKind, ScriptRefusal};
-pub use laws::{one_script, one_script_refusal, script_is_not_refused};
+pub use laws::{one_script, one_script_refusal, own_lines_laws, script_is_not_refused};
 pub use line::{Line, Script};
 pub use script::read_script;
 pub use transcripts::transcript;

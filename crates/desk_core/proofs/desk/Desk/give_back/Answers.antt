@@ -11,7 +11,7 @@ use Rattle.desk_core.proofs.desk.Desk.give_back.Goals as goal
 
 pub invariant_of-self-2 : goal.invariant_of-self-2
 invariant_of-self-2 c =
-    (back_leaves _ c.args.pass c.args.batch c.phase_at-phase.result c.held_by-held.result c.returned_reply-reply.result c.move_batch.new.batches.items c.write.new.entries.items _ _ c.self.inside.next c.sealed_again-self-inside.result c.self.invariant
+    (back_leaves _ c.args.pass c.args.batch c.phase_at-phase.result c.held_by-held.result c.returned_reply-reply.result c.move_batch.new.batches.items c.write.new.entries.items _ _ _ c.self.inside.next c.sealed_again-self-inside.result c.self.invariant
     (c.phase_at-phase.ensures ∙ ap (λ (bs : List Batch). phase_of_batch bs c.args.batch) c.as_slice.ensures.value)
     (c.held_by-held.ensures.held ∙ ap (λ (bs : List Batch). held_number c.args.pass c.args.batch (phase_of_batch bs c.args.batch)) c.as_slice-2.ensures.value)
     c.returned_reply-reply.ensures c.move_batch.ensures c.sealed_again-self-inside.ensures
@@ -20,7 +20,7 @@ invariant_of-self-2 c =
 pub returns-clause-ok : goal.returns-clause-ok
 returns-clause-ok c =
     turn_of _ _ _ c.args.pass (GiveBack c.args.batch) no_pie c.returned_reply-reply.result c.self.view_is
-    ((back_leaves _ c.args.pass c.args.batch c.phase_at-phase.result c.held_by-held.result c.returned_reply-reply.result c.move_batch.new.batches.items c.write.new.entries.items _ _ c.self.inside.next c.sealed_again-self-inside.result c.self.invariant
+    ((back_leaves _ c.args.pass c.args.batch c.phase_at-phase.result c.held_by-held.result c.returned_reply-reply.result c.move_batch.new.batches.items c.write.new.entries.items _ _ _ c.self.inside.next c.sealed_again-self-inside.result c.self.invariant
     (c.phase_at-phase.ensures ∙ ap (λ (bs : List Batch). phase_of_batch bs c.args.batch) c.as_slice.ensures.value)
     (c.held_by-held.ensures.held ∙ ap (λ (bs : List Batch). held_number c.args.pass c.args.batch (phase_of_batch bs c.args.batch)) c.as_slice-2.ensures.value)
     c.returned_reply-reply.ensures c.move_batch.ensures c.sealed_again-self-inside.ensures
@@ -29,7 +29,7 @@ returns-clause-ok c =
 pub returns-clause-good : goal.returns-clause-good
 returns-clause-good c = (
   subst IsGoodDesk c.self.view_is c.self.invariant.good,
-  (back_leaves _ c.args.pass c.args.batch c.phase_at-phase.result c.held_by-held.result c.returned_reply-reply.result c.move_batch.new.batches.items c.write.new.entries.items _ _ c.self.inside.next c.sealed_again-self-inside.result c.self.invariant
+  (back_leaves _ c.args.pass c.args.batch c.phase_at-phase.result c.held_by-held.result c.returned_reply-reply.result c.move_batch.new.batches.items c.write.new.entries.items _ _ _ c.self.inside.next c.sealed_again-self-inside.result c.self.invariant
       (c.phase_at-phase.ensures ∙ ap (λ (bs : List Batch). phase_of_batch bs c.args.batch) c.as_slice.ensures.value)
       (c.held_by-held.ensures.held ∙ ap (λ (bs : List Batch). held_number c.args.pass c.args.batch (phase_of_batch bs c.args.batch)) c.as_slice-2.ensures.value)
       c.returned_reply-reply.ensures c.move_batch.ensures c.sealed_again-self-inside.ensures

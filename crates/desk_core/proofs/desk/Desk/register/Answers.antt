@@ -16,7 +16,7 @@ jobs_at-kept-requires c = goes_out _ c.self.invariant.good c.as_slice-4.result.n
 pub invariant_of-self-then-not-is_welcome : goal.invariant_of-self-then-not-is_welcome
 invariant_of-self-then-not-is_welcome c =
     let told : c.is_welcome.result ≡ false = search rules in
-    (refused_leaves _ c.args.pass c.args.batch c.phase_at-phase.result c.held_by-held.result c.first_difference-differs.result c.reply_with-reply.result c.write.new.entries.items _ _ _ c.self.invariant
+    (refused_leaves _ c.args.pass c.args.batch c.phase_at-phase.result c.held_by-held.result c.first_difference-differs.result c.reply_with-reply.result c.write.new.entries.items _ _ _ _ c.self.invariant
     (c.phase_at-phase.ensures ∙ ap (λ (bs : List Batch). phase_of_batch bs c.args.batch) c.as_slice.ensures.value)
     (c.held_by-held.ensures.held ∙ ap (λ (bs : List Batch). held_number c.args.pass c.args.batch (phase_of_batch bs c.args.batch)) c.as_slice-2.ensures.value)
     (sym c.is_welcome.ensures ∙ told) c.reply_with-reply.ensures
@@ -31,7 +31,7 @@ returns-then-not-is_welcome-clause-end c =
     refused_ends _ _ c.args.pass c.args.batch c.args.certified c.held_by-held.result c.first_difference-differs.result c.phase_at-phase.result c.reply_with-reply.result c.refused.result
     (sym c.is_welcome.ensures ∙ told) c.reply_with-reply.ensures c.refused.ensures
     (registering _ _ _ c.args.pass c.args.batch c.args.certified c.first_difference-differs.result c.reply_with-reply.result c.self.view_is found
-    (refused_leaves _ c.args.pass c.args.batch c.phase_at-phase.result c.held_by-held.result c.first_difference-differs.result c.reply_with-reply.result c.write.new.entries.items _ _ _ c.self.invariant
+    (refused_leaves _ c.args.pass c.args.batch c.phase_at-phase.result c.held_by-held.result c.first_difference-differs.result c.reply_with-reply.result c.write.new.entries.items _ _ _ _ c.self.invariant
     (c.phase_at-phase.ensures ∙ ap (λ (bs : List Batch). phase_of_batch bs c.args.batch) c.as_slice.ensures.value)
     (c.held_by-held.ensures.held ∙ ap (λ (bs : List Batch). held_number c.args.pass c.args.batch (phase_of_batch bs c.args.batch)) c.as_slice-2.ensures.value)
     (sym c.is_welcome.ensures ∙ told) c.reply_with-reply.ensures
@@ -41,7 +41,7 @@ pub returns-then-not-is_welcome-clause-good : goal.returns-then-not-is_welcome-c
 returns-then-not-is_welcome-clause-good c =
     let told : c.is_welcome.result ≡ false = search rules in (
       subst IsGoodDesk c.self.view_is c.self.invariant.good,
-      (refused_leaves _ c.args.pass c.args.batch c.phase_at-phase.result c.held_by-held.result c.first_difference-differs.result c.reply_with-reply.result c.write.new.entries.items _ _ _ c.self.invariant
+      (refused_leaves _ c.args.pass c.args.batch c.phase_at-phase.result c.held_by-held.result c.first_difference-differs.result c.reply_with-reply.result c.write.new.entries.items _ _ _ _ c.self.invariant
           (c.phase_at-phase.ensures ∙ ap (λ (bs : List Batch). phase_of_batch bs c.args.batch) c.as_slice.ensures.value)
           (c.held_by-held.ensures.held ∙ ap (λ (bs : List Batch). held_number c.args.pass c.args.batch (phase_of_batch bs c.args.batch)) c.as_slice-2.ensures.value)
           (sym c.is_welcome.ensures ∙ told) c.reply_with-reply.ensures
@@ -55,7 +55,7 @@ invariant_of-self-2 c =
     let kept = c.jobs_at-kept.ensures.jobs ∙ (λ i. jobs_numbered (c.as_slice-3.ensures.value i) (c.as_slice-4.ensures.value i) c.args.batch) in
     let found = found_in c.as_slice-5.result.now c.args.certified.parcel.tasks c.jobs_at-kept.result.now (jobs_numbered c.self.inside.jobs.items c.self.inside.batches.items c.args.batch) c.first_difference-differs.result given kept c.first_difference-differs.ensures in
     (registered_leaves _ c.args.pass c.args.batch c.phase_at-phase.result c.held_by-held.result c.first_difference-differs.result c.reply_with-reply.result c.args.certified c.into_parts-cert.result.0 c.into_parts-cert.result.1
-    c.add_all.new.self c.in-Ok-facts_of.facts.items c.keep.new.batches.items c.write-2.new.entries.items _ _ _ c.self.invariant
+    c.add_all.new.self c.in-Ok-facts_of.facts.items c.keep.new.batches.items c.write-2.new.entries.items _ _ _ _ c.self.invariant
     (c.held_by-held.ensures.held ∙ ap (λ (bs : List Batch). held_number c.args.pass c.args.batch (phase_of_batch bs c.args.batch)) c.as_slice-2.ensures.value)
     (sym c.is_welcome.ensures ∙ told) c.reply_with-reply.ensures
     c.into_parts-cert.ensures.cert c.into_parts-cert.ensures.parcel c.into_parts-cert.ensures.accepted c.into_parts-cert.ensures.stand found
@@ -68,9 +68,9 @@ returns-clause-end c =
     let given = c.as_slice-5.ensures.value ∙ (ap (λ (p : ParcelRecord). p.tasks) c.behind-certified.view_is ∙ ap (λ (p : ParcelRecord). p.tasks) c.parcel.ensures) in
     let kept = c.jobs_at-kept.ensures.jobs ∙ (λ i. jobs_numbered (c.as_slice-3.ensures.value i) (c.as_slice-4.ensures.value i) c.args.batch) in
     let found = found_in c.as_slice-5.result.now c.args.certified.parcel.tasks c.jobs_at-kept.result.now (jobs_numbered c.self.inside.jobs.items c.self.inside.batches.items c.args.batch) c.first_difference-differs.result given kept c.first_difference-differs.ensures in
-    registered_ends _ _ _ c.args.pass c.args.batch c.args.certified c.first_difference-differs.result c.reply_with-reply.result _ _ _ c.self.view_is found
+    registered_ends _ _ _ c.args.pass c.args.batch c.args.certified c.first_difference-differs.result c.reply_with-reply.result _ _ _ _ c.self.view_is found
     (registered_leaves _ c.args.pass c.args.batch c.phase_at-phase.result c.held_by-held.result c.first_difference-differs.result c.reply_with-reply.result c.args.certified c.into_parts-cert.result.0 c.into_parts-cert.result.1
-    c.add_all.new.self c.in-Ok-facts_of.facts.items c.keep.new.batches.items c.write-2.new.entries.items _ _ _ c.self.invariant
+    c.add_all.new.self c.in-Ok-facts_of.facts.items c.keep.new.batches.items c.write-2.new.entries.items _ _ _ _ c.self.invariant
     (c.held_by-held.ensures.held ∙ ap (λ (bs : List Batch). held_number c.args.pass c.args.batch (phase_of_batch bs c.args.batch)) c.as_slice-2.ensures.value)
     (sym c.is_welcome.ensures ∙ told) c.reply_with-reply.ensures
     c.into_parts-cert.ensures.cert c.into_parts-cert.ensures.parcel c.into_parts-cert.ensures.accepted c.into_parts-cert.ensures.stand found
@@ -85,7 +85,7 @@ returns-clause-good c =
     let found = found_in c.as_slice-5.result.now c.args.certified.parcel.tasks c.jobs_at-kept.result.now (jobs_numbered c.self.inside.jobs.items c.self.inside.batches.items c.args.batch) c.first_difference-differs.result given kept c.first_difference-differs.ensures in (
       subst IsGoodDesk c.self.view_is c.self.invariant.good,
       (registered_leaves _ c.args.pass c.args.batch c.phase_at-phase.result c.held_by-held.result c.first_difference-differs.result c.reply_with-reply.result c.args.certified c.into_parts-cert.result.0 c.into_parts-cert.result.1
-          c.add_all.new.self c.in-Ok-facts_of.facts.items c.keep.new.batches.items c.write-2.new.entries.items _ _ _ c.self.invariant
+          c.add_all.new.self c.in-Ok-facts_of.facts.items c.keep.new.batches.items c.write-2.new.entries.items _ _ _ _ c.self.invariant
           (c.held_by-held.ensures.held ∙ ap (λ (bs : List Batch). held_number c.args.pass c.args.batch (phase_of_batch bs c.args.batch)) c.as_slice-2.ensures.value)
           (sym c.is_welcome.ensures ∙ told) c.reply_with-reply.ensures
           c.into_parts-cert.ensures.cert c.into_parts-cert.ensures.parcel c.into_parts-cert.ensures.accepted c.into_parts-cert.ensures.stand found

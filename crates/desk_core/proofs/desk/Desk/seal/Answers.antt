@@ -43,7 +43,7 @@ overflow_add-self c =
 
 pub invariant_of-self-2 : goal.invariant_of-self-2
 invariant_of-self-2 c =
-    (sealed_leaves _ c.args.pass c.self.inside.batched c.cut_number-count.result c.in_ok-waiting.waiting.items c.sealed_reply-reply.result c.add_batch.new.batches.items c.write.new.entries.items _ _ c.self.invariant
+    (sealed_leaves _ c.args.pass c.self.inside.batched c.cut_number-count.result c.in_ok-waiting.waiting.items c.sealed_reply-reply.result c.add_batch.new.batches.items c.write.new.entries.items _ _ _ c.self.invariant
     (c.in_ok-waiting.ensures ∙ ap (λ (js : List Job). job_shapes (drop c.self.inside.batched js)) c.as_slice.ensures.value)
     (c.cut_number-count.ensures.value ∙ ap longest_cut c.as_slice-2.ensures.value)
     (c.sealed_reply-reply.ensures ∙ ap (sealed_with c.cut_number-count.result c.self.inside.closed) (c.number_of-number.ensures ∙ ap length (c.as_slice-3.ensures.value ∙ c.reserve.ensures.items)))
@@ -53,7 +53,7 @@ invariant_of-self-2 c =
 pub returns-clause-ok : goal.returns-clause-ok
 returns-clause-ok c =
     turn_of _ _ _ c.args.pass Seal no_pie c.sealed_reply-reply.result c.self.view_is
-    ((sealed_leaves _ c.args.pass c.self.inside.batched c.cut_number-count.result c.in_ok-waiting.waiting.items c.sealed_reply-reply.result c.add_batch.new.batches.items c.write.new.entries.items _ _ c.self.invariant
+    ((sealed_leaves _ c.args.pass c.self.inside.batched c.cut_number-count.result c.in_ok-waiting.waiting.items c.sealed_reply-reply.result c.add_batch.new.batches.items c.write.new.entries.items _ _ _ c.self.invariant
     (c.in_ok-waiting.ensures ∙ ap (λ (js : List Job). job_shapes (drop c.self.inside.batched js)) c.as_slice.ensures.value)
     (c.cut_number-count.ensures.value ∙ ap longest_cut c.as_slice-2.ensures.value)
     (c.sealed_reply-reply.ensures ∙ ap (sealed_with c.cut_number-count.result c.self.inside.closed) (c.number_of-number.ensures ∙ ap length (c.as_slice-3.ensures.value ∙ c.reserve.ensures.items)))
@@ -63,7 +63,7 @@ returns-clause-ok c =
 pub returns-clause-good : goal.returns-clause-good
 returns-clause-good c = (
   subst IsGoodDesk c.self.view_is c.self.invariant.good,
-  (sealed_leaves _ c.args.pass c.self.inside.batched c.cut_number-count.result c.in_ok-waiting.waiting.items c.sealed_reply-reply.result c.add_batch.new.batches.items c.write.new.entries.items _ _ c.self.invariant
+  (sealed_leaves _ c.args.pass c.self.inside.batched c.cut_number-count.result c.in_ok-waiting.waiting.items c.sealed_reply-reply.result c.add_batch.new.batches.items c.write.new.entries.items _ _ _ c.self.invariant
       (c.in_ok-waiting.ensures ∙ ap (λ (js : List Job). job_shapes (drop c.self.inside.batched js)) c.as_slice.ensures.value)
       (c.cut_number-count.ensures.value ∙ ap longest_cut c.as_slice-2.ensures.value)
       (c.sealed_reply-reply.ensures ∙ ap (sealed_with c.cut_number-count.result c.self.inside.closed) (c.number_of-number.ensures ∙ ap length (c.as_slice-3.ensures.value ∙ c.reserve.ensures.items)))

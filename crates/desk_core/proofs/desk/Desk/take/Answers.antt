@@ -30,7 +30,7 @@ sealed_from-self-inside-requires-clause-so_far c =
 
 pub invariant_of-self-2 : goal.invariant_of-self-2
 invariant_of-self-2 c =
-    (taken_leaves _ c.args.pass c.next_sealed-found.result c.taken_reply-reply.result c.move_batch.new.batches.items c.write.new.entries.items _ _ c.self.inside.next c.sealed_from-self-inside.result c.self.invariant
+    (taken_leaves _ c.args.pass c.next_sealed-found.result c.taken_reply-reply.result c.move_batch.new.batches.items c.write.new.entries.items _ _ _ c.self.inside.next c.sealed_from-self-inside.result c.self.invariant
     (c.next_sealed-found.ensures.found ∙ ap (λ (bs : List Batch). sealed_number c.self.inside.next (length bs)) c.as_slice.ensures.value)
     c.taken_reply-reply.ensures c.move_batch.ensures (c.sealed_from-self-inside.ensures ∙ ap before_sealed c.as_slice-4.ensures.value)
     (c.write.ensures ∙ ap (λ (es : List Entry). es ++ record { pass = c.args.pass; event = Take; reply = c.taken_reply-reply.result } ∷ []) c.reserve.ensures.items)).kept
@@ -38,7 +38,7 @@ invariant_of-self-2 c =
 pub returns-clause-ok : goal.returns-clause-ok
 returns-clause-ok c =
     turn_of _ _ _ c.args.pass Take no_pie c.taken_reply-reply.result c.self.view_is
-    ((taken_leaves _ c.args.pass c.next_sealed-found.result c.taken_reply-reply.result c.move_batch.new.batches.items c.write.new.entries.items _ _ c.self.inside.next c.sealed_from-self-inside.result c.self.invariant
+    ((taken_leaves _ c.args.pass c.next_sealed-found.result c.taken_reply-reply.result c.move_batch.new.batches.items c.write.new.entries.items _ _ _ c.self.inside.next c.sealed_from-self-inside.result c.self.invariant
     (c.next_sealed-found.ensures.found ∙ ap (λ (bs : List Batch). sealed_number c.self.inside.next (length bs)) c.as_slice.ensures.value)
     c.taken_reply-reply.ensures c.move_batch.ensures (c.sealed_from-self-inside.ensures ∙ ap before_sealed c.as_slice-4.ensures.value)
     (c.write.ensures ∙ ap (λ (es : List Entry). es ++ record { pass = c.args.pass; event = Take; reply = c.taken_reply-reply.result } ∷ []) c.reserve.ensures.items)).turn)
@@ -46,12 +46,12 @@ returns-clause-ok c =
 pub returns-clause-parcel : goal.returns-clause-parcel
 returns-clause-parcel c =
     c.in_ok-parcel.ensures ∙ ((λ i. parcel_at (c.as_slice-2.ensures.value i) (c.as_slice-3.ensures.value i) c.next_sealed-found.result)
-    ∙ (handed _ _ _ _ c.self.invariant c.next_sealed-found.result c.taken_reply-reply.result c.taken_reply-reply.ensures ∙ ap (λ (d : DeskRecord). handed_out d c.taken_reply-reply.result) c.self.view_is))
+    ∙ (handed _ _ _ _ _ c.self.invariant c.next_sealed-found.result c.taken_reply-reply.result c.taken_reply-reply.ensures ∙ ap (λ (d : DeskRecord). handed_out d c.taken_reply-reply.result) c.self.view_is))
 
 pub returns-clause-good : goal.returns-clause-good
 returns-clause-good c = (
   subst IsGoodDesk c.self.view_is c.self.invariant.good,
-  (taken_leaves _ c.args.pass c.next_sealed-found.result c.taken_reply-reply.result c.move_batch.new.batches.items c.write.new.entries.items _ _ c.self.inside.next c.sealed_from-self-inside.result c.self.invariant
+  (taken_leaves _ c.args.pass c.next_sealed-found.result c.taken_reply-reply.result c.move_batch.new.batches.items c.write.new.entries.items _ _ _ c.self.inside.next c.sealed_from-self-inside.result c.self.invariant
       (c.next_sealed-found.ensures.found ∙ ap (λ (bs : List Batch). sealed_number c.self.inside.next (length bs)) c.as_slice.ensures.value)
       c.taken_reply-reply.ensures c.move_batch.ensures (c.sealed_from-self-inside.ensures ∙ ap before_sealed c.as_slice-4.ensures.value)
       (c.write.ensures ∙ ap (λ (es : List Entry). es ++ record { pass = c.args.pass; event = Take; reply = c.taken_reply-reply.result } ∷ []) c.reserve.ensures.items)).kept.good,
