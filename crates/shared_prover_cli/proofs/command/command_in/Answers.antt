@@ -4,7 +4,7 @@ use Rattle.std.specs.Prelude.{IfNone, IfSome, string_bytes}
 use Rattle.shared_prover_cli.specs.Commands.{IsPlainCommand, row_of}
 use Rattle.shared_prover_cli.specs.declared.command.Command.{Command}
 use Rattle.shared_prover_cli.proofs.CommandLemmas.{word_count}
-use Rattle.shared_prover_cli.proofs.WordLemmas.{map-one_word, map-two_words}
+use Rattle.shared_prover_cli.proofs.WordLemmas.{map-one_word}
 use Rattle.shared_prover_cli.proofs.command.command_in.Goals as goal
 
 -- the only word is the whole list
@@ -16,3 +16,19 @@ returns-in-len1 c =
       found = subst (λ (ws : List (List ℕ)). IfSome c.command_named.result (λ command. (row_of command).asked_by ws)) whole c.command_named.ensures.found;
       none = subst (λ (ws : List (List ℕ)). IfNone c.command_named.result ((command : Command) → IsPlainCommand command → ¬ ((row_of command).asked_by ws))) whole c.command_named.ensures.none;
     }
+
+-- no word, four, and more than five
+pub returns-in_default-clause-none : goal.returns-in_default-clause-none
+returns-in_default-clause-none c = λ command own asked.
+    let h = word_count command (map string_bytes c.args.words.now) asked in
+    omega (arith, h.some, h.few, h.not_four, length-map c.args.words.now string_bytes)
+
+pub returns-in_default-2-clause-none : goal.returns-in_default-2-clause-none
+returns-in_default-2-clause-none c = λ command own asked.
+    let h = word_count command (map string_bytes c.args.words.now) asked in
+    omega (arith, h.some, h.few, h.not_four, length-map c.args.words.now string_bytes)
+
+pub returns-in_default-3-clause-none : goal.returns-in_default-3-clause-none
+returns-in_default-3-clause-none c = λ command own asked.
+    let h = word_count command (map string_bytes c.args.words.now) asked in
+    omega (arith, h.some, h.few, h.not_four, length-map c.args.words.now string_bytes)
