@@ -3,8 +3,7 @@ use Rattle.std.specs.Prelude.{◌≡◌, ℕ, Bool, false, true, List, [], ◌�
 use Rattle.std.specs.declared.alloc.Global.{Global}
 use Rattle.desk_core.specs.DeskRecords.{DeskRecord}
 use Rattle.desk_core.specs.Limits.{most_clients}
-use Rattle.work_maker.specs.Generator.{script_of}
-use Rattle.work_maker.specs.Limits.{most_jobs, script_clients}
+use Rattle.work_maker.specs.Limits.{most_jobs}
 use Rattle.shared_prover_cli.specs.Answers.Boot.{BootAnswer}
 use Rattle.shared_prover_cli.specs.Answers.CheckTexts.{CheckLine}
 use Rattle.shared_prover_cli.specs.Answers.List.{ListAnswer}
@@ -12,7 +11,7 @@ use Rattle.shared_prover_cli.specs.Answers.Make.{MakeAnswer}
 use Rattle.shared_prover_cli.specs.Answers.Place.{PlaceAnswer}
 use Rattle.shared_prover_cli.specs.Answers.Replay.{ReplayAnswer}
 use Rattle.shared_prover_cli.specs.Answers.RunTexts.{RunAnswer}
-use Rattle.shared_prover_cli.specs.Answers.Scripts.{ScriptAnswer, TellsBatchOf, TellsNumbers, TellsTranscript}
+use Rattle.shared_prover_cli.specs.Answers.Scripts.{ScriptAnswer, TellsBatchOf, TellsTranscript, TrialAnswer}
 use Rattle.shared_prover_cli.specs.Limits.{least_batch, least_clients, least_jobs, most_batch}
 use Rattle.shared_prover_cli.specs.Numbers.{IsNumberIn}
 use Rattle.shared_prover_cli.specs.Replies.{ReplyRecord}
@@ -66,7 +65,7 @@ row_of (commands.Batch clients) = record { asked_by = IsWordAndClients (codes "b
 row_of (commands.Export clients batch) =
     record { asked_by = IsWordClientsAndBatch (codes "export") clients batch; reads = true; answers = ScriptAnswer clients (TellsBatchOf batch) }
 row_of (commands.Trial jobs) =
-    record { asked_by = IsWordAndNumber (codes "trial") least_jobs most_jobs jobs; reads = false; answers = λ input. ScriptAnswer script_clients TellsNumbers (script_of jobs) }
+    record { asked_by = IsWordAndNumber (codes "trial") least_jobs most_jobs jobs; reads = false; answers = λ input. TrialAnswer jobs }
 
 -- ---- the table read aloud
 

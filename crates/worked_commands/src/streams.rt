@@ -97,7 +97,7 @@ fn reads_from_a_reader_and_writes_to_a_writer_of_std(rt: HostRuntime) -> Result<
     let mut again = StdSource::new(five.as_slice());
     let mut short = StdSink::new(room.as_mut_slice());
     let stopped = run_plain(&rt, rt.alloc(), words.as_slice(), &mut again, &mut short);
-    assert_eq!(rt; stopped.number(), 5);
+    assert_eq!(rt; stopped.status.number(), 5);
     assert_eq!(rt; room.as_slice(), b"adm".as_slice());
     Ok(())
 }

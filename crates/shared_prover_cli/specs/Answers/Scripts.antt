@@ -11,6 +11,8 @@ use Rattle.desk_script.specs.Scripts.{IsFirstBadScriptLine, IsScript, kind_numbe
 use Rattle.desk_script.specs.Transcripts.{IsTranscript, steps_of_jobs}
 use Rattle.desk_script.specs.declared.kinds.ScriptRefusal.{ScriptRefusal}
 use Rattle.script_runner.specs.Runs.{RunsScript}
+use Rattle.work_maker.specs.Generator.{script_of}
+use Rattle.work_maker.specs.Limits.{script_clients}
 use Rattle.shared_prover_cli.specs.Replies.{ReplyRecord}
 
 -- ---- the run
@@ -78,7 +80,11 @@ trial_text desk =
     count_line (codes "jobs") (length desk.jobs) ++ count_line (codes "batches") (length desk.batches)
     ++ count_line (codes "facts") (length desk.registry) ++ count_line (codes "steps") (steps_of_jobs desk.jobs)
 
--- `trial`: those four numbers
 pub record TellsNumbers (desk : DeskRecord) (reply : ReplyRecord) : Type 0 where
   pub has_status : reply.status ≡ 0
   pub has_text : reply.text ≡ trial_text desk
+
+-- the script of so many jobs was run, its desk is handed out, and those numbers are told of it
+abbrev pub TrialAnswer : ℕ → ReplyRecord → Option DeskRecord → Type 0
+TrialAnswer jobs reply None = ⊥
+TrialAnswer jobs reply (Some desk) = RanScript script_clients (script_of jobs) desk × TellsNumbers desk reply

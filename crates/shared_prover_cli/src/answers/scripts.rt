@@ -2,9 +2,8 @@ ghost use Rattle.std.specs.Prelude.{◌≡◌, ◌≤◌, Err, IfOk};
 ghost use Rattle.desk_core.specs.GoodDesks.{IsGoodDesk};
 ghost use Rattle.desk_core.specs.Limits.{most_clients};
 ghost use Rattle.desk_script.specs.Scripts.{IsFirstBadScriptLine};
-ghost use Rattle.work_maker.specs.Generator.{script_of};
-ghost use Rattle.work_maker.specs.Limits.{most_jobs, script_clients};
-ghost use Rattle.shared_prover_cli.specs.Answers.Scripts.{RanScript, ScriptAnswer, TellsBatchOf, TellsNumbers, TellsTranscript};
+ghost use Rattle.work_maker.specs.Limits.{most_jobs};
+ghost use Rattle.shared_prover_cli.specs.Answers.Scripts.{RanScript, ScriptAnswer, TellsBatchOf, TellsNumbers, TellsTranscript, TrialAnswer};
 ghost use Rattle.shared_prover_cli.specs.Working.Replies.{reply_view};
 ghost use Rattle.shared_prover_cli.specs.Working.Scripting.{AllCertified, IsCertified, IsFileOfBatch, NamesBadLine};
 
@@ -15,7 +14,8 @@ use batch_runner::BootMaker;
 use cairo_model::End;
 use cert_format::write_cert;
 use desk_core::{Batch, Desk};
-use desk_script::{ScriptRefusal, read_script, transcript};
+use desk_script::{ScriptRefusal, read_script, script_is_not_refused, transcript};
+use made_scripts::made_script_is_script;
 use script_runner::run_script;
 use std::alloc::{AllocError, Global};
 use std::thread::Threads;
@@ -74,25 +74,23 @@ pub fn export_answer<R: Threads + Sync>(
 }
 
 /// The numbers of the script of so many jobs.
-#[tactic(auto, using(crate::proofs::ScriptLemmas::tells_bad_line))]
 pub fn trial_answer<R: Threads + Sync>(
     rt: &R,
     alloc: Global,
     jobs: u32,
 ) -> Result<Told, AllocError>
     requires { jobs ≤ most_jobs }
-    ensures { IfOk result (λ told. ScriptAnswer script_clients TellsNumbers (script_of jobs) (reply_view told.reply) told.desk) }
+    ensures { IfOk result (λ told. TrialAnswer jobs (reply_view told.reply) told.desk) }
 {
+    made_script_is_script();
+    script_is_not_refused();
     let script = make_script(alloc, jobs)?;
     match ran(rt, alloc, script.as_slice(), SCRIPT_CLIENTS) {
         Ok(desk) => Ok(Told {
             reply: trial_reply(alloc, &desk)?,
             desk: Some(desk),
         }),
-        Err(End::Refused(refusal)) => Ok(Told {
-            reply: bad_line_reply(alloc, refusal)?,
-            desk: None,
-        }),
+        Err(End::Refused(_)) => unreachable!(),
         Err(End::OutOfMemory) => Err(AllocError),
     }
 }
