@@ -22,8 +22,11 @@ use Rattle.desk_script.specs.Scripts.{AreScriptLines, IsFirstBadScriptLine, IsSc
 use Rattle.desk_script.specs.Views.{line_view}
 use Rattle.desk_script.specs.declared.kinds.ScriptRefusal.{ScriptRefusal}
 use Rattle.desk_script.specs.declared.line.Line.{Line}
+use Rattle.made_scripts.specs.MadeLines.{made_lines}
 use Rattle.script_runner.specs.Lines.{line_client}
 use Rattle.script_runner.specs.Runs.{RunsScript}
+use Rattle.work_maker.specs.Generator.{script_of}
+use Rattle.work_maker.specs.Limits.{most_jobs, script_clients}
 use Rattle.shared_prover_cli.specs.Answers.Scripts.{RanScript, TellsBadLine, TellsBatch, few_batches_text}
 use Rattle.shared_prover_cli.specs.Replies.{ReplyRecord}
 use Rattle.shared_prover_cli.specs.Working.Scripting.{AllCertified, IsCertified, IsFileOfBatch, NamesBadLine}
@@ -140,6 +143,13 @@ got_few bs ds b reply same le status text =
 
 pub jobs_below : (d : DeskRecord) → IsGoodDesk d → length d.jobs < 2 ^ 32
 jobs_below d good = omega (arith, jobs_few d good)
+
+-- what the generator writes is a script, so that no line of it is bad
+pub never_refused : ((jobs : ℕ) → jobs ≤ most_jobs → IsScript script_clients (script_of jobs) (made_lines jobs))
+    → ((clients : ℕ) (bytes : List ℕ) (lines : List ScriptLine) (r : ScriptRefusal) → clients ≤ 2 ^ 32 → IsScript clients bytes lines → ¬ IsFirstBadScriptLine clients bytes r)
+    → (jobs : ℕ) (bytes : List ℕ) (r : ScriptRefusal) → jobs ≤ most_jobs → bytes ≡ script_of jobs → IsFirstBadScriptLine script_clients bytes r → ⊥
+never_refused made taken jobs bytes r few are first =
+    taken script_clients (script_of jobs) (made_lines jobs) r (omega arith) (made jobs few) (subst (λ (b : List ℕ). IsFirstBadScriptLine script_clients b r) are first)
 
 -- ---- by function
 

@@ -74,6 +74,7 @@ pub fn export_answer<R: Threads + Sync>(
 }
 
 /// The numbers of the script of so many jobs.
+#[tactic(auto, using(crate::proofs::ScriptLemmas::never_refused))]
 pub fn trial_answer<R: Threads + Sync>(
     rt: &R,
     alloc: Global,
