@@ -1,14 +1,16 @@
 // The program: its streams, its words and its exit status.
 #![tactic(auto)]
 
-use shared_prover_cli::{Status, StdSink, StdSource, exit_code, explanation, run_plain, words_of};
+use shared_prover_cli::{
+    Ended, Status, StdSink, StdSource, exit_code, explanation, run_plain, words_of,
+};
 use std::env;
 use std::io::ErrorKind;
 use std::process::ExitCode;
 use std::rt::Env;
 
 fn main(rt: HostRuntime) -> ExitCode {
-    let status = match arguments(&rt) {
+    let ended = match arguments(&rt) {
         Ok(args) => {
             let mut source = StdSource::new(rt.stdin());
             let mut sink = StdSink::new(rt.stdout());
@@ -20,8 +22,9 @@ fn main(rt: HostRuntime) -> ExitCode {
                 &mut sink,
             )
         }
-        Err(status) => status,
+        Err(status) => Ended { status, desk: None },
     };
+    let status = ended.status;
     if let Some(line) = explanation(status) {
         let _ = eprintln!(rt; "shared_prover: {line}");
     }

@@ -4,6 +4,8 @@ mod KeptBytes
 mod OneAnswer
 mod OneOutcome
 mod RunLemmas
+mod ScriptLemmas
+mod ToldLemmas
 mod WordLemmas
 pub mod CheckLemmas
 pub mod TakenSoFar

@@ -1,5 +1,5 @@
 -- A command has one answer to an input, and none has the status of a script.
-use Rattle.std.proofs.Common.{◌≡◌, ◌≢◌, ℕ, ◌+◌, List, Ok, Err, length, slice_index, sym, ap, subst, ◌∙◌, arith}
+use Rattle.std.proofs.Common.{◌≡◌, ◌≢◌, ℕ, ◌+◌, List, Option, Ok, Err, length, slice_index, sym, ap, subst, ◌∙◌, arith}
 use Rattle.std.proofs.lemmas.List.{ext_get_or}
 use Rattle.cairo_model.specs.Pie.Acceptance.{CheckedRecord}
 use Rattle.cairo_model.specs.Certificate.Records.{CertRecord, SpanRecord}
@@ -24,7 +24,8 @@ use Rattle.shared_prover_cli.specs.Answers.Check.{CheckAnswer, IsCheckOf, accept
 use Rattle.shared_prover_cli.specs.Answers.CheckTexts.{check_status, check_text}
 use Rattle.shared_prover_cli.specs.Answers.Run.{IsOutcomeOf, TextOutcome, no_code, ran}
 use Rattle.shared_prover_cli.specs.Answers.RunTexts.{outcome_status, outcome_text}
-use Rattle.shared_prover_cli.specs.Commands.{AnswerOf}
+use Rattle.desk_core.specs.DeskRecords.{DeskRecord}
+use Rattle.shared_prover_cli.specs.Commands.{AnswerOf, RunsNoScript}
 use Rattle.shared_prover_cli.specs.Replies.{ReplyRecord}
 use Rattle.shared_prover_cli.specs.Texts.{verdict_status, verdict_text}
 use Rattle.shared_prover_cli.specs.declared.command.Command.{Command}
@@ -106,24 +107,27 @@ module _ (one_verdict : OneVerdict) (one_placement : OnePlacement) (one_certific
   same_reply : (reply other : ReplyRecord) → reply.status ≡ other.status → reply.text ≡ other.text → reply ≡ other
   same_reply reply other status text = λ i. record { status = status i; text = text i }
 
-  pub one_answer : (command : Command) (input : List ℕ) (reply other : ReplyRecord) → AnswerOf command input reply → AnswerOf command input other → reply ≡ other
-  one_answer commands.Replay input reply other p q =
-      let same = one_verdict input p.verdict q.verdict p.is_verdict q.is_verdict in
-      same_reply reply other (p.has_status ∙ ap verdict_status same ∙ sym q.has_status) (p.has_text ∙ ap verdict_text same ∙ sym q.has_text)
-  one_answer commands.Place input reply other p q =
-      let same = one_verdict input p.verdict q.verdict p.is_verdict q.is_verdict in
-      same_reply reply other (p.has_status ∙ ap verdict_status same ∙ sym q.has_status) (one_text q.verdict reply.text other.text (subst (λ (v : Verdict). IsPlaced v reply.text) same p.has_text) q.has_text)
-  one_answer commands.List input reply other p q =
-      let same = one_verdict input p.verdict q.verdict p.is_verdict q.is_verdict in
-      same_reply reply other (p.has_status ∙ ap verdict_status same ∙ sym q.has_status) (one_listed q.verdict reply.text other.text (subst (λ (v : Verdict). IsListedFor v reply.text) same p.has_text) q.has_text)
-  one_answer commands.Run input reply other p q =
-      let same = one_outcome input p.outcome q.outcome p.is_outcome q.is_outcome in
-      same_reply reply other (p.has_status ∙ ap outcome_status same ∙ sym q.has_status) (p.has_text ∙ ap outcome_text same ∙ sym q.has_text)
-  one_answer commands.Boot input reply other p q = same_reply reply other (p.has_status ∙ sym q.has_status) (p.has_text ∙ sym q.has_text)
-  one_answer (commands.Make jobs) input reply other p q = same_reply reply other (p.has_status ∙ sym q.has_status) (p.has_text ∙ sym q.has_text)
-  one_answer commands.Check input reply other p q =
-      let same = one_check input p.answer q.answer p.is_answer q.is_answer in
-      same_reply reply other (p.has_status ∙ ap check_status same ∙ sym q.has_status) (p.has_text ∙ ap check_text same ∙ sym q.has_text)
+  pub one_answer : (command : Command) (input : List ℕ) (reply other : ReplyRecord) (desk others : Option DeskRecord) → RunsNoScript command → AnswerOf command input reply desk → AnswerOf command input other others → reply ≡ other
+  one_answer commands.Replay input reply other desk others none p q =
+      let same = one_verdict input p.0.verdict q.0.verdict p.0.is_verdict q.0.is_verdict in
+      same_reply reply other (p.0.has_status ∙ ap verdict_status same ∙ sym q.0.has_status) (p.0.has_text ∙ ap verdict_text same ∙ sym q.0.has_text)
+  one_answer commands.Place input reply other desk others none p q =
+      let same = one_verdict input p.0.verdict q.0.verdict p.0.is_verdict q.0.is_verdict in
+      same_reply reply other (p.0.has_status ∙ ap verdict_status same ∙ sym q.0.has_status) (one_text q.0.verdict reply.text other.text (subst (λ (v : Verdict). IsPlaced v reply.text) same p.0.has_text) q.0.has_text)
+  one_answer commands.List input reply other desk others none p q =
+      let same = one_verdict input p.0.verdict q.0.verdict p.0.is_verdict q.0.is_verdict in
+      same_reply reply other (p.0.has_status ∙ ap verdict_status same ∙ sym q.0.has_status) (one_listed q.0.verdict reply.text other.text (subst (λ (v : Verdict). IsListedFor v reply.text) same p.0.has_text) q.0.has_text)
+  one_answer commands.Run input reply other desk others none p q =
+      let same = one_outcome input p.0.outcome q.0.outcome p.0.is_outcome q.0.is_outcome in
+      same_reply reply other (p.0.has_status ∙ ap outcome_status same ∙ sym q.0.has_status) (p.0.has_text ∙ ap outcome_text same ∙ sym q.0.has_text)
+  one_answer commands.Boot input reply other desk others none p q = same_reply reply other (p.0.has_status ∙ sym q.0.has_status) (p.0.has_text ∙ sym q.0.has_text)
+  one_answer (commands.Make jobs) input reply other desk others none p q = same_reply reply other (p.0.has_status ∙ sym q.0.has_status) (p.0.has_text ∙ sym q.0.has_text)
+  one_answer commands.Check input reply other desk others none p q =
+      let same = one_check input p.0.answer q.0.answer p.0.is_answer q.0.is_answer in
+      same_reply reply other (p.0.has_status ∙ ap check_status same ∙ sym q.0.has_status) (p.0.has_text ∙ ap check_text same ∙ sym q.0.has_text)
+  one_answer (commands.Batch clients) input reply other desk others none p q = absurd none
+  one_answer (commands.Export clients batch) input reply other desk others none p q = absurd none
+  one_answer (commands.Trial jobs) input reply other desk others none p q = absurd none
 
 -- ---- scripts
 
@@ -142,11 +146,14 @@ no_outcome (no_code refusal) = λ e. omega (arith, e)
 no_outcome (ran (Ok pie)) = λ e. omega (arith, e)
 no_outcome (ran (Err cause)) = λ e. omega (arith, e)
 
-pub no_script : (command : Command) (input : List ℕ) (reply : ReplyRecord) → AnswerOf command input reply → reply.status ≢ 3
-no_script commands.Replay input reply p = λ e. no_verdict p.verdict (sym p.has_status ∙ e)
-no_script commands.Place input reply p = λ e. no_verdict p.verdict (sym p.has_status ∙ e)
-no_script commands.List input reply p = λ e. no_verdict p.verdict (sym p.has_status ∙ e)
-no_script commands.Check input reply p = λ e. no_check p.answer (sym p.has_status ∙ e)
-no_script commands.Run input reply p = λ e. no_outcome p.outcome (sym p.has_status ∙ e)
-no_script commands.Boot input reply p = λ e. omega (arith, p.has_status, e)
-no_script (commands.Make jobs) input reply p = λ e. omega (arith, p.has_status, e)
+pub no_script : (command : Command) (input : List ℕ) (reply : ReplyRecord) (desk : Option DeskRecord) → RunsNoScript command → AnswerOf command input reply desk → reply.status ≢ 3
+no_script commands.Replay input reply desk none p = λ e. no_verdict p.0.verdict (sym p.0.has_status ∙ e)
+no_script commands.Place input reply desk none p = λ e. no_verdict p.0.verdict (sym p.0.has_status ∙ e)
+no_script commands.List input reply desk none p = λ e. no_verdict p.0.verdict (sym p.0.has_status ∙ e)
+no_script commands.Check input reply desk none p = λ e. no_check p.0.answer (sym p.0.has_status ∙ e)
+no_script commands.Run input reply desk none p = λ e. no_outcome p.0.outcome (sym p.0.has_status ∙ e)
+no_script commands.Boot input reply desk none p = λ e. omega (arith, p.0.has_status, e)
+no_script (commands.Make jobs) input reply desk none p = λ e. omega (arith, p.0.has_status, e)
+no_script (commands.Batch clients) input reply desk none p = absurd none
+no_script (commands.Export clients batch) input reply desk none p = absurd none
+no_script (commands.Trial jobs) input reply desk none p = absurd none

@@ -7,3 +7,4 @@ pub mod Place
 pub mod Replay
 pub mod Run
 pub mod RunTexts
+pub mod Scripts

@@ -1,7 +1,8 @@
 -- What a run of a top call promises, by the status that it ends with.
-use Rattle.std.specs.Prelude.{◌≡◌, ◌≤◌, ℕ, Bool, true, false, List, [], Option, String, length}
+use Rattle.std.specs.Prelude.{◌≡◌, ◌≤◌, ℕ, Bool, true, false, List, [], Option, None, String, length}
 use Rattle.std.specs.Io.KnownBytes.{Appends}
 use Rattle.std.specs.declared.alloc.Global.{Global}
+use Rattle.desk_core.specs.DeskRecords.{DeskRecord}
 use Rattle.shared_prover_cli.specs.Commands.{AnswerOf, Asks, AsksForNone, reads_input}
 use Rattle.shared_prover_cli.specs.Faults.{Rose}
 use Rattle.shared_prover_cli.specs.Limits.{input_limit}
@@ -49,22 +50,24 @@ abbrev pub ReadFails : Bool → Stream → Type 0
 ReadFails true source = ConsumesAtMost input_limit source.before source.after × Rose source.faults_before source.faults_after
 ReadFails false source = ⊥
 
-module _ (IsOwn : Command → Type 0) (words : List (String Global)) (source sink : Stream) where
-  -- The words ask for none of the call's own commands, and nothing was read or written.
+module _ (IsOwn : Command → Type 0) (words : List (String Global)) (source sink : Stream) (desk : Option DeskRecord) where
+  -- The words ask for none of the call's own commands, nothing was read or written, and there is no desk.
   pub record NotAsked : Type 0 where
     pub no_command : AsksForNone IsOwn words
     pub unread : source.IsUntouched
     pub unwritten : sink.IsUntouched
+    pub no_desk : desk ≡ None
 
-  -- They ask for one, so much was read for it, and nothing was written.
+  -- They ask for one, so much was read for it, nothing was written, and there is no desk.
   pub record StopsEarly (Reads : Bool → Stream → Type 0) : Type 0 where
     pub command : Command
     pub own : IsOwn command
     pub asked : Asks words command
     pub reads : Reads (reads_input command) source
     pub unwritten : sink.IsUntouched
+    pub no_desk : desk ≡ None
 
-  -- They ask for one, its input was read, and of the text of its reply this much was written.
+  -- They ask for one, its input was read, of the text of its reply this much was written, and the desk is that of its script.
   pub record Replies (Writes : ReplyRecord → Type 0) : Type 0 where
     pub command : Command
     pub own : IsOwn command
@@ -72,7 +75,7 @@ module _ (IsOwn : Command → Type 0) (words : List (String Global)) (source sin
     pub input : List ℕ
     pub has_input : HasInput (reads_input command) source input
     pub reply : ReplyRecord
-    pub answer : AnswerOf command input reply
+    pub answer : AnswerOf command input reply desk
     pub writes : Writes reply
 
 -- the whole text, and the reply has this status
@@ -84,12 +87,12 @@ abbrev pub WritesPart : Stream → ReplyRecord → Type 0
 WritesPart sink reply = AppendsPart sink.before sink.after reply.text × Rose sink.faults_before sink.faults_after
 
 -- The promise of a call with these commands of its own. Want of memory alone is free.
-abbrev pub EndsWith : (Command → Type 0) → List (String Global) → Stream → Stream → Status → Type 0
-EndsWith IsOwn words source sink statuses.Done = Replies IsOwn words source sink (WritesWhole 0 sink)
-EndsWith IsOwn words source sink statuses.Refused = Replies IsOwn words source sink (WritesWhole 1 sink)
-EndsWith IsOwn words source sink statuses.Usage = NotAsked IsOwn words source sink
-EndsWith IsOwn words source sink statuses.Script = Replies IsOwn words source sink (WritesWhole 3 sink)
-EndsWith IsOwn words source sink statuses.ReadFault = StopsEarly IsOwn words source sink ReadFails
-EndsWith IsOwn words source sink statuses.WriteFault = Replies IsOwn words source sink (WritesPart sink)
-EndsWith IsOwn words source sink statuses.OutOfMemory = StopsEarly IsOwn words source sink ReadsWithin
-EndsWith IsOwn words source sink statuses.TooLong = StopsEarly IsOwn words source sink ReadsBeyond
+abbrev pub EndsWith : (Command → Type 0) → List (String Global) → Stream → Stream → Status → Option DeskRecord → Type 0
+EndsWith IsOwn words source sink statuses.Done desk = Replies IsOwn words source sink desk (WritesWhole 0 sink)
+EndsWith IsOwn words source sink statuses.Refused desk = Replies IsOwn words source sink desk (WritesWhole 1 sink)
+EndsWith IsOwn words source sink statuses.Usage desk = NotAsked IsOwn words source sink desk
+EndsWith IsOwn words source sink statuses.Script desk = Replies IsOwn words source sink desk (WritesWhole 3 sink)
+EndsWith IsOwn words source sink statuses.ReadFault desk = StopsEarly IsOwn words source sink desk ReadFails
+EndsWith IsOwn words source sink statuses.WriteFault desk = Replies IsOwn words source sink desk (WritesPart sink)
+EndsWith IsOwn words source sink statuses.OutOfMemory desk = StopsEarly IsOwn words source sink desk ReadsWithin
+EndsWith IsOwn words source sink statuses.TooLong desk = StopsEarly IsOwn words source sink desk ReadsBeyond

@@ -1,5 +1,7 @@
+ghost use Rattle.std.specs.Prelude.{◌≤◌};
+ghost use Rattle.desk_core.specs.Limits.{most_clients};
 ghost use Rattle.shared_prover_cli.specs.Runs.{stream};
-ghost use Rattle.shared_prover_cli.specs.Working.Replying.{CanBeAsked, ComesTo};
+ghost use Rattle.shared_prover_cli.specs.Working.Replying.{CanBeAsked, ComesTo, ComesWith};
 
 mod boot;
 mod check;
@@ -8,6 +10,7 @@ mod make;
 mod place;
 mod replay;
 mod run;
+mod scripts;
 
 use crate::answers::boot::boot_answer;
 use crate::answers::check::check_answer;
@@ -16,33 +19,45 @@ use crate::answers::make::make_answer;
 use crate::answers::place::place_answer;
 use crate::answers::replay::replay_answer;
 use crate::answers::run::run_answer;
+use crate::answers::scripts::{batch_answer, export_answer, trial_answer};
 use crate::command::Command;
 use crate::limits::INPUT_LIMIT;
 use crate::reply::Reply;
 use crate::stream::Source;
+use crate::told::{Told, without_desk};
 use crate::whole::{InputFault, read_into, read_whole};
 use cert_format::CertReader;
 use std::alloc::Global;
 use std::thread::Threads;
 
-/// Reads the input of a command, if it has one, and makes its reply. Those that check rows are given the runtime.
+/// Reads the input of a command, if it has one, makes its reply, and hands out the desk at which it ran a script, if it did.
+#[tactic(auto, using(crate::proofs::ToldLemmas::told_replies))]
 pub fn reply_to<R: Threads + Sync, S: Source>(
     rt: &R,
     alloc: Global,
     command: Command,
     source: &mut S,
-) -> Result<Reply, InputFault>
+) -> Result<Told, InputFault>
     requires { CanBeAsked command }
-    ensures { ComesTo command (stream S.left S.faults source.old source.new) result }
+    ensures { ComesWith command (stream S.left S.faults source.old source.new) result }
 {
     match command {
-        Command::Replay => replay_reply(alloc, source),
-        Command::Place => place_reply(alloc, source),
-        Command::List => list_reply(alloc, source),
-        Command::Check => check_reply(rt, alloc, source),
-        Command::Run => run_reply(alloc, source),
-        Command::Boot => Ok(boot_answer(alloc)?),
-        Command::Make(jobs) => Ok(make_answer(alloc, jobs)?),
+        Command::Replay => without_desk(replay_reply(alloc, source)),
+        Command::Place => without_desk(place_reply(alloc, source)),
+        Command::List => without_desk(list_reply(alloc, source)),
+        Command::Check => without_desk(check_reply(rt, alloc, source)),
+        Command::Run => without_desk(run_reply(alloc, source)),
+        Command::Boot => Ok(Told {
+            reply: boot_answer(alloc)?,
+            desk: None,
+        }),
+        Command::Make(jobs) => Ok(Told {
+            reply: make_answer(alloc, jobs)?,
+            desk: None,
+        }),
+        Command::Batch(clients) => batch_reply(rt, alloc, source, clients),
+        Command::Export(clients, batch) => export_reply(rt, alloc, source, clients, batch),
+        Command::Trial(jobs) => Ok(trial_answer(rt, alloc, jobs)?),
     }
 }
 
@@ -85,4 +100,33 @@ fn check_reply<R: Threads + Sync, S: Source>(
     let mut reader = CertReader::new(alloc);
     read_into(alloc, source, INPUT_LIMIT, &mut reader)?;
     Ok(check_answer(rt, alloc, reader)?)
+}
+
+fn batch_reply<R: Threads + Sync, S: Source>(
+    rt: &R,
+    alloc: Global,
+    source: &mut S,
+    clients: u32,
+) -> Result<Told, InputFault>
+    requires some { 1 ≤ clients }
+    requires few { clients ≤ most_clients }
+    ensures { ComesWith (Command.Batch clients) (stream S.left S.faults source.old source.new) result }
+{
+    let script = read_whole(alloc, source, INPUT_LIMIT)?;
+    Ok(batch_answer(rt, alloc, script.as_slice(), clients)?)
+}
+
+fn export_reply<R: Threads + Sync, S: Source>(
+    rt: &R,
+    alloc: Global,
+    source: &mut S,
+    clients: u32,
+    batch: u32,
+) -> Result<Told, InputFault>
+    requires some { 1 ≤ clients }
+    requires few { clients ≤ most_clients }
+    ensures { ComesWith (Command.Export clients batch) (stream S.left S.faults source.old source.new) result }
+{
+    let script = read_whole(alloc, source, INPUT_LIMIT)?;
+    Ok(export_answer(rt, alloc, script.as_slice(), clients, batch)?)
 }

@@ -26,8 +26,8 @@ pub fn answer_in_pieces(
     words.push(word.to_string(rt.alloc())?)?;
     let mut source = MemSource::new(bytes, most, Vec::new(rt.alloc()));
     let mut sink = MemSink::new(rt.alloc(), 4_000, 100, Vec::new(rt.alloc()))?;
-    let status = run_plain(rt, rt.alloc(), words.as_slice(), &mut source, &mut sink);
-    Ok((status.number(), sink.bytes().to_vec(rt.alloc())?))
+    let ended = run_plain(rt, rt.alloc(), words.as_slice(), &mut source, &mut sink);
+    Ok((ended.status.number(), sink.bytes().to_vec(rt.alloc())?))
 }
 
 /// What the program ends with at these words and bytes, and what it writes, at most 100,000 bytes.

@@ -115,7 +115,7 @@ fn a_gap_behind_a_run_costs_no_step(rt: HostRuntime) -> Result<(), Fail> {
     let end = format!(in alloc;
         "batch 0 steps 10 jobs 0.0 0.1\nfact {EMPTY_HASH} outputs\nfact {FIVE_HASH} outputs 5\nend\n"
     )?;
-    let found = asked(&rt, &["batch", "--clients=1"], script)?;
+    let found = asked(&rt, &["batch", "--clients", "1"], script)?;
     assert_eq!(rt; found.0, 0);
     assert!(rt; found.1.as_slice().ends_with(end.as_bytes()));
     Ok(())

@@ -25,8 +25,8 @@ fn answers_whatever_the_pieces(rt: HostRuntime) -> Result<(), Fail> {
         let input = decode(rt.alloc(), FIVE)?;
         let mut source = MemSource::new(input, gives, Vec::new(rt.alloc()));
         let mut sink = MemSink::new(rt.alloc(), 100, takes, Vec::new(rt.alloc()))?;
-        let status = run_plain(&rt, rt.alloc(), words.as_slice(), &mut source, &mut sink);
-        assert_eq!(rt; status, Status::Done);
+        let ended = run_plain(&rt, rt.alloc(), words.as_slice(), &mut source, &mut sink);
+        assert_eq!(rt; ended.status, Status::Done);
         assert_eq!(rt; sink.bytes(), LINE.as_slice());
     }
     Ok(())
@@ -39,8 +39,8 @@ fn a_failing_read_writes_nothing(rt: HostRuntime) -> Result<(), Fail> {
         let input = b"hello".to_vec(rt.alloc())?;
         let mut source = MemSource::new(input, 1, [failing].to_vec(rt.alloc())?);
         let mut sink = MemSink::new(rt.alloc(), 100, 100, Vec::new(rt.alloc()))?;
-        let status = run_plain(&rt, rt.alloc(), words.as_slice(), &mut source, &mut sink);
-        assert_eq!(rt; status.number(), 4);
+        let ended = run_plain(&rt, rt.alloc(), words.as_slice(), &mut source, &mut sink);
+        assert_eq!(rt; ended.status.number(), 4);
         assert!(rt; sink.bytes().is_empty());
     }
     Ok(())
@@ -52,8 +52,8 @@ fn a_failing_write_leaves_a_beginning(rt: HostRuntime) -> Result<(), Fail> {
     for (room, failing, held) in [(100, 2, b"ad".as_slice()), (100, 1, b""), (3, 9, b"adm")] {
         let mut source = SureSource::new(decode(rt.alloc(), FIVE)?);
         let mut sink = MemSink::new(rt.alloc(), room, 2, [failing].to_vec(rt.alloc())?)?;
-        let status = run_plain(&rt, rt.alloc(), words.as_slice(), &mut source, &mut sink);
-        assert_eq!(rt; status.number(), 5);
+        let ended = run_plain(&rt, rt.alloc(), words.as_slice(), &mut source, &mut sink);
+        assert_eq!(rt; ended.status.number(), 5);
         assert_eq!(rt; sink.bytes(), held);
     }
     Ok(())
@@ -71,14 +71,14 @@ fn other_words_are_usage(rt: HostRuntime) -> Result<(), Fail> {
     ] {
         let words = words_of(rt.alloc(), texts)?;
         let mut source = SureSource::new(b"hello".to_vec(rt.alloc())?);
-        let status = run_plain(
+        let ended = run_plain(
             &rt,
             rt.alloc(),
             words.as_slice(),
             &mut source,
             &mut SureSink::new(),
         );
-        assert_eq!(rt; status.number(), 2);
+        assert_eq!(rt; ended.status.number(), 2);
     }
     Ok(())
 }
@@ -90,14 +90,14 @@ fn reads_from_a_reader_and_writes_to_a_writer_of_std(rt: HostRuntime) -> Result<
     let mut bytes = Vec::new(rt.alloc());
     let mut source = StdSource::new(five.as_slice());
     let mut sink = StdSink::new(&mut bytes);
-    let status = run_plain(&rt, rt.alloc(), words.as_slice(), &mut source, &mut sink);
-    assert_eq!(rt; status.number(), 0);
+    let ended = run_plain(&rt, rt.alloc(), words.as_slice(), &mut source, &mut sink);
+    assert_eq!(rt; ended.status.number(), 0);
     assert_eq!(rt; bytes.as_slice(), LINE.as_slice());
     let mut room = [0u8; 3];
     let mut again = StdSource::new(five.as_slice());
     let mut short = StdSink::new(room.as_mut_slice());
     let stopped = run_plain(&rt, rt.alloc(), words.as_slice(), &mut again, &mut short);
-    assert_eq!(rt; stopped.number(), 5);
+    assert_eq!(rt; stopped.status.number(), 5);
     assert_eq!(rt; room.as_slice(), b"adm".as_slice());
     Ok(())
 }

@@ -1,11 +1,13 @@
 -- What comes of a command that is asked for.
-use Rattle.std.specs.Prelude.{◌≡◌, ◌≢◌, ℕ, List, Result, Err, IfOk}
+use Rattle.std.specs.Prelude.{◌≡◌, ◌≢◌, ℕ, List, Option, None, Result, Ok, Err, IfOk}
+use Rattle.desk_core.specs.DeskRecords.{DeskRecord}
 use Rattle.shared_prover_cli.specs.Commands.{AnswerOf, reads_input, row_of}
 use Rattle.shared_prover_cli.specs.Replies.{ReplyRecord}
 use Rattle.shared_prover_cli.specs.Runs.{HasInput, ReadFails, ReadsBeyond, ReadsWithin, Stream}
 use Rattle.shared_prover_cli.specs.Working.Replies.{reply_view}
 use Rattle.shared_prover_cli.specs.declared.command.Command.{Command}
 use Rattle.shared_prover_cli.specs.declared.reply.Reply.{Reply}
+use Rattle.shared_prover_cli.specs.declared.told.Told.{Told}
 use Rattle.shared_prover_cli.specs.declared.whole.InputFault.{InputFault}
 use Rattle.shared_prover_cli.specs.declared.whole.InputFault.TheVariants.{ReadFault, TooLong}
 
@@ -13,15 +15,27 @@ use Rattle.shared_prover_cli.specs.declared.whole.InputFault.TheVariants.{ReadFa
 abbrev pub CanBeAsked : Command → Type 0
 CanBeAsked command = (words : List (List ℕ)) × (row_of command).asked_by words
 
--- its reply to the input that it has
-pub record IsReplyTo (command : Command) (source : Stream) (reply : ReplyRecord) : Type 0 where
+-- its reply to the input that it has, and the desk of its script
+pub record IsReplyTo (command : Command) (source : Stream) (reply : ReplyRecord) (desk : Option DeskRecord) : Type 0 where
   pub input : List ℕ
   pub has_input : HasInput (reads_input command) source input
-  pub answer : AnswerOf command input reply
+  pub answer : AnswerOf command input reply desk
 
--- the reply, or how much was read where there is none
+-- the reply of a command that runs no script, or how much was read where there is none
 pub record ComesTo (command : Command) (source : Stream) (result : Result Reply InputFault) : Type 0 where
-  pub answered : IfOk result (λ reply. IsReplyTo command source (reply_view reply))
+  pub answered : IfOk result (λ reply. IsReplyTo command source (reply_view reply) None)
   pub long : result ≡ Err TooLong → ReadsBeyond (reads_input command) source
   pub within : result ≢ Err TooLong → ReadsWithin (reads_input command) source
   pub failed : result ≡ Err ReadFault → ReadFails (reads_input command) source
+
+-- the reply and the desk
+pub record ComesWith (command : Command) (source : Stream) (result : Result Told InputFault) : Type 0 where
+  pub answered : IfOk result (λ told. IsReplyTo command source (reply_view told.reply) told.desk)
+  pub long : result ≡ Err TooLong → ReadsBeyond (reads_input command) source
+  pub within : result ≢ Err TooLong → ReadsWithin (reads_input command) source
+  pub failed : result ≡ Err ReadFault → ReadFails (reads_input command) source
+
+-- a reply with no desk
+abbrev pub told_alone : Result Reply InputFault → Result Told InputFault
+told_alone (Ok reply) = Ok (record { reply = reply; desk = None })
+told_alone (Err fault) = Err fault

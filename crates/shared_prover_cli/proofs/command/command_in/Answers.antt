@@ -3,8 +3,8 @@ use Rattle.std.proofs.lemmas.List.{length-map}
 use Rattle.std.specs.Prelude.{IfNone, IfSome, string_bytes}
 use Rattle.shared_prover_cli.specs.Commands.{IsPlainCommand, row_of}
 use Rattle.shared_prover_cli.specs.declared.command.Command.{Command}
-use Rattle.shared_prover_cli.proofs.CommandLemmas.{one_or_two}
-use Rattle.shared_prover_cli.proofs.WordLemmas.{map-one_word, map-two_words}
+use Rattle.shared_prover_cli.proofs.CommandLemmas.{word_count}
+use Rattle.shared_prover_cli.proofs.WordLemmas.{map-five_words, map-one_word}
 use Rattle.shared_prover_cli.proofs.command.command_in.Goals as goal
 
 -- the only word is the whole list
@@ -17,26 +17,28 @@ returns-in-len1 c =
       none = subst (λ (ws : List (List ℕ)). IfNone c.command_named.result ((command : Command) → IsPlainCommand command → ¬ ((row_of command).asked_by ws))) whole c.command_named.ensures.none;
     }
 
--- and so are the only two
-pub returns-in-len2 : goal.returns-in-len2
-returns-in-len2 c =
-    let word = c.word-item-then-words-lt3.result in
-    let after = c.number-item.result in
-    let whole : c.as_str-in-len2.result.now ∷ c.as_str-in-len2-2.result.now ∷ [] ≡ map string_bytes c.args.words.now =
-    (λ i. c.as_str-in-len2.ensures.value i ∷ c.as_str-in-len2-2.ensures.value i ∷ [])
-    ∙ sym (map-two_words c.args.words.now word after (omega arith) (omega arith) c.word-item-then-words-lt3.is c.number-item.is) in
-    record {
-      found = subst (λ (ws : List (List ℕ)). IfSome c.command_with.result (λ command. (row_of command).asked_by ws)) whole c.command_with.ensures.found;
-      none = subst (λ (ws : List (List ℕ)). IfNone c.command_with.result ((command : Command) → IsPlainCommand command → ¬ ((row_of command).asked_by ws))) whole c.command_with.ensures.none;
-    }
+-- so are the five words
+pub returns-in-len5-clause-none : goal.returns-in-len5-clause-none
+returns-in-len5-clause-none c =
+    let spelled : c.as_str-in-len5.result.now ∷ c.as_str-in-len5-2.result.now ∷ c.as_str-in-len5-3.result.now ∷ c.as_str-in-len5-4.result.now ∷ c.as_str-in-len5-5.result.now ∷ []
+        ≡ string_bytes c.word-item-then-words-lt6.result ∷ string_bytes c.first-item.result ∷ string_bytes c.clients-item.result ∷ string_bytes c.second-item.result ∷ string_bytes c.batch-item.result ∷ [] =
+    λ i. c.as_str-in-len5.ensures.value i ∷ c.as_str-in-len5-2.ensures.value i ∷ c.as_str-in-len5-3.ensures.value i ∷ c.as_str-in-len5-4.ensures.value i ∷ c.as_str-in-len5-5.ensures.value i ∷ [] in
+    let mapped = map-five_words c.args.words.now c.word-item-then-words-lt6.result c.first-item.result c.clients-item.result c.second-item.result c.batch-item.result
+    (omega (arith, c.in-len5.len_at_least)) (omega (arith, c.in-len5.len_below)) c.word-item-then-words-lt6.is c.first-item.is c.clients-item.is c.second-item.is c.batch-item.is in
+    subst (λ (ws : List (List ℕ)). IfNone c.command_of_batch.result ((command : Command) → IsPlainCommand command → ¬ ((row_of command).asked_by ws))) (spelled ∙ sym mapped) c.command_of_batch.ensures.none
 
--- no word, and more than two
+-- no word, four, and more than five
 pub returns-in_default-clause-none : goal.returns-in_default-clause-none
 returns-in_default-clause-none c = λ command own asked.
-    let few = one_or_two command (map string_bytes c.args.words.now) asked in
-    omega (arith, few.0, few.1, length-map c.args.words.now string_bytes)
+    let h = word_count command (map string_bytes c.args.words.now) asked in
+    omega (arith, h.some, h.few, h.not_four, length-map c.args.words.now string_bytes)
 
 pub returns-in_default-2-clause-none : goal.returns-in_default-2-clause-none
 returns-in_default-2-clause-none c = λ command own asked.
-    let few = one_or_two command (map string_bytes c.args.words.now) asked in
-    omega (arith, few.0, few.1, length-map c.args.words.now string_bytes)
+    let h = word_count command (map string_bytes c.args.words.now) asked in
+    omega (arith, h.some, h.few, h.not_four, length-map c.args.words.now string_bytes)
+
+pub returns-in_default-3-clause-none : goal.returns-in_default-3-clause-none
+returns-in_default-3-clause-none c = λ command own asked.
+    let h = word_count command (map string_bytes c.args.words.now) asked in
+    omega (arith, h.some, h.few, h.not_four, length-map c.args.words.now string_bytes)
