@@ -39,9 +39,7 @@ pub fn command_in(words: &[String]) -> Option<Command>
     match words {
         [word] => command_named(word.as_str()),
         [word, number] => command_with(word.as_str(), number.as_str()),
-        [word, option, number] => {
-            command_for(word.as_str(), option.as_str(), number.as_str())
-        }
+        [word, option, number] => { command_for(word.as_str(), option.as_str(), number.as_str()) }
         [word, first, clients, second, batch] => command_of_batch(
             word.as_str(),
             first.as_str(),

@@ -49,12 +49,7 @@ pub fn trial_lines(alloc: Global, desk: &Desk) -> Result<Vec<u8>, AllocError>
 }
 
 // Appends a line with a number.
-fn put_count(
-    alloc: Global,
-    text: &mut Vec<u8>,
-    name: &[u8],
-    count: u64,
-) -> Result<(), AllocError>
+fn put_count(alloc: Global, text: &mut Vec<u8>, name: &[u8], count: u64) -> Result<(), AllocError>
     ensures { OnOk result (text.new.items ≡ text.old.items ++ count_line name.now count) }
 {
     text.extend_from_slice(name)?;

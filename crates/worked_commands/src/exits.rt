@@ -9,7 +9,9 @@ const ENDS: [(Status, u8, Option<&'static str>); 8] = [
     (
         Status::Usage,
         2,
-        Some("usage: shared_prover replay | place | list | check | run | boot | make N | batch --clients C | export --clients C --batch B | trial N"),
+        Some(
+            "usage: shared_prover replay | place | list | check | run | boot | make N | batch --clients C | export --clients C --batch B | trial N",
+        ),
     ),
     (Status::Script, 3, None),
     (Status::ReadFault, 4, Some("the input could not be read")),

@@ -74,12 +74,7 @@ pub fn export_answer<R: Threads + Sync>(
 }
 
 /// The numbers of the script of so many jobs.
-#[tactic(auto, using(crate::proofs::ScriptLemmas::never_refused))]
-pub fn trial_answer<R: Threads + Sync>(
-    rt: &R,
-    alloc: Global,
-    jobs: u32,
-) -> Result<Told, AllocError>
+pub fn trial_answer<R: Threads + Sync>(rt: &R, alloc: Global, jobs: u32) -> Result<Told, AllocError>
     requires { jobs ≤ most_jobs }
     ensures { IfOk result (λ told. TrialAnswer jobs (reply_view told.reply) told.desk) }
 {

@@ -21,7 +21,7 @@ returns-in-len1 c =
 pub returns-in-len5-clause-none : goal.returns-in-len5-clause-none
 returns-in-len5-clause-none c =
     let spelled : c.as_str-in-len5.result.now ∷ c.as_str-in-len5-2.result.now ∷ c.as_str-in-len5-3.result.now ∷ c.as_str-in-len5-4.result.now ∷ c.as_str-in-len5-5.result.now ∷ []
-        ≡ string_bytes c.word-item-then-words-lt6.result ∷ string_bytes c.first-item.result ∷ string_bytes c.clients-item.result ∷ string_bytes c.second-item.result ∷ string_bytes c.batch-item.result ∷ [] =
+    ≡ string_bytes c.word-item-then-words-lt6.result ∷ string_bytes c.first-item.result ∷ string_bytes c.clients-item.result ∷ string_bytes c.second-item.result ∷ string_bytes c.batch-item.result ∷ [] =
     λ i. c.as_str-in-len5.ensures.value i ∷ c.as_str-in-len5-2.ensures.value i ∷ c.as_str-in-len5-3.ensures.value i ∷ c.as_str-in-len5-4.ensures.value i ∷ c.as_str-in-len5-5.ensures.value i ∷ [] in
     let mapped = map-five_words c.args.words.now c.word-item-then-words-lt6.result c.first-item.result c.clients-item.result c.second-item.result c.batch-item.result
     (omega (arith, c.in-len5.len_at_least)) (omega (arith, c.in-len5.len_below)) c.word-item-then-words-lt6.is c.first-item.is c.clients-item.is c.second-item.is c.batch-item.is in
