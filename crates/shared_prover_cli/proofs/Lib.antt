@@ -5,6 +5,7 @@ mod OneAnswer
 mod OneOutcome
 mod RunLemmas
 mod ScriptLemmas
+mod ScriptRun
 mod ToldLemmas
 mod WordLemmas
 pub mod CheckLemmas
