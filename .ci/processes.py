@@ -132,6 +132,14 @@ def try_scripts():
         example("bad_client.script"): b"script 2 4\n", b"settle 0\nsettle 0": b"script 2 1\n", b"submit 0 0\n": b"script 1 5\n",
     }.items():
         expect(f"batch of {script[:20]}", run(["batch", "--clients", "1"], input=script), (3, text, b""))
+    hash_of_five = ADMITTED.split()[2]
+    for name, (script, answer) in {
+        "as many lines as a script has": (b"settle 0\n" * 65_536, (0, b"end\n", b"")),
+        "a line more": (b"settle 0\n" * 65_537, (3, b"script 65537 7\n", b"")),
+        "one line of 190 MB that doesn't end": (b"submit 0 " + b"0" * 190_000_000, (3, b"script 1 1\n", b"")),
+        "a fact with a million outputs": (b"ask 0 " + hash_of_five + b" 5" * 1_000_000 + b"\n", (0, b"client 0 ask no\nend\n", b"")),
+    }.items():
+        expect(f"batch of {name}", run(["batch", "--clients", "1"], input=script), answer)
     three = example("three.script")
     status, certificate, _ = run(["export", "--clients", "1", "--batch", "0"], input=three)
     expect("export of a batch", (status, run(["check"], input=certificate or b"")), (0, (0, BATCH, b"")))
