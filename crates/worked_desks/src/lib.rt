@@ -3,12 +3,8 @@
 #![tactic(auto)]
 
 #[cfg(test)]
-mod changes;
-#[cfg(test)]
 mod desk;
 #[cfg(test)]
 mod registry;
 #[cfg(test)]
 mod scripts;
-#[cfg(test)]
-mod workers;
