@@ -3,10 +3,10 @@
 
 Usage: allocations.py [--program FILE] [--only WORD]    (a C compiler `cc` makes the library that refuses, refusing.c)
 
-An allocation is refused alone, and then with all later ones. The end is status 6 with nothing written, or all is as before. A read
-that fails ends with 4 and nothing written, a write that fails with 5 and a beginning of the answer; a thread that isn't started,
-a read or a write of one byte changes nothing. Input and output are also tried in small pieces. Prints a table of the runs for
-docs/BENCHMARK.md, and ends with 1 where one run is out of line.
+An allocation is refused alone, and then with the next 999 (not with all later ones: `serve` tries to close its desk until it has the
+memory to). The end is status 6 with nothing written, or all is as before. A read that fails ends with 4 and nothing written, a write
+that fails with 5 and a beginning of the answer; a thread that isn't started, a read or a write of one byte changes nothing. Input and
+output are also tried in small pieces. Prints a table of the runs for docs/BENCHMARK.md, and ends with 1 where a run is out of line.
 """
 import argparse
 import collections
@@ -28,10 +28,16 @@ PIECES, LEAST_PIECE = 24, 64
 
 # What is refused, how, and whether in pieces: a column of the table each.
 COLUMNS = {
-    "allocation, alone": ("allocation", "once", False), "allocation, and all later": ("allocation", "onward", False),
-    "read fails": ("read", "once", False), "read of one byte": ("read", "short", False), "read of a piece fails": ("read", "once", True),
-    "write fails": ("write", "once", False), "write of one byte": ("write", "short", False), "write of a piece fails": ("write", "once", True),
-    "thread, alone": ("thread", "once", False), "thread, and all later": ("thread", "onward", False),
+    "allocation, alone": ("allocation", "once", False),
+    "allocation, and the next 999": ("allocation", "stretch", False),
+    "read fails": ("read", "once", False),
+    "read of one byte": ("read", "short", False),
+    "read of a piece fails": ("read", "once", True),
+    "write fails": ("write", "once", False),
+    "write of one byte": ("write", "short", False),
+    "write of a piece fails": ("write", "once", True),
+    "thread, alone": ("thread", "once", False),
+    "thread, and all later": ("thread", "stretch", False),
 }
 
 

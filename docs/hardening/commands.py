@@ -117,15 +117,26 @@ def small_commands(program):
     five, addr = example("five.pie"), example("addr.pie")
     three, asks, four = example("three.script"), example("asks.script"), example("four_clients.script")
     found = [
-        Command("replay", five), Command("replay", addr, " of a refused file"), Command("replay", example("hash0.pie"), " with a hash instance"),
-        Command("place", five), Command("list", five),
-        Command("check", example("five.cert")), Command("check", example("batch.cert"), " of a batch"),
+        Command("replay", five),
+        Command("replay", addr, " of a refused file"),
+        Command("replay", example("hash0.pie"), " with a hash instance"),
+        Command("place", five),
+        Command("list", five),
+        Command("check", example("five.cert")),
+        Command("check", example("batch.cert"), " of a batch"),
         Command("check", long_certificate(program), " of 8,000 rows"),
-        Command("run", example("five.casm")), Command("run", example("down.casm"), " of a loop"), Command("run", example("no_label.casm"), " of a refused text"),
-        Command("boot", b""), Command("make 1", b""), Command("trial 4", b""),
-        Command("batch --clients 1", three), Command("batch --clients 1", asks, " with questions"), Command("batch --clients 4", four),
+        Command("run", example("five.casm")),
+        Command("run", example("down.casm"), " of a loop"),
+        Command("run", example("no_label.casm"), " of a refused text"),
+        Command("boot", b""),
+        Command("make 1", b""),
+        Command("trial 4", b""),
+        Command("batch --clients 1", three),
+        Command("batch --clients 1", asks, " with questions"),
+        Command("batch --clients 4", four),
         Command("batch --clients 1", example("bad_client.script"), " of a bad line"),
-        Command("export --clients 1 --batch 0", three), Command("export --clients 1 --batch 1", three),
+        Command("export --clients 1 --batch 0", three),
+        Command("export --clients 1 --batch 1", three),
     ]
     if serves(program):
         found += [Command("serve --clients 1 --workers 1", three), Command("serve --clients 4 --workers 2", four)]

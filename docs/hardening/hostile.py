@@ -73,14 +73,19 @@ def json_value(rng, depth=0):
     if pick < 2:
         return str(edge(rng))
     if pick < 6:
-        return rng.choice(("null", "true", "-1", "1e9", "6.0", "-0", "1e999", "0x1", "01", '"\\u006dain"', '"\\ud800"', '"\x01"', '""', "9" * 400, '"' + "k" * 3000 + '"'))
+        return rng.choice(JSON_WORDS)
     parts = [json_value(rng, depth + 1) for _ in range(rng.randint(0, 4))]
     if pick < 8:
         return "[" + ",".join(parts) + "]"
     return "{" + ",".join(f'{rng.choice(KEYS)}:{part}' for part in parts) + "}"
 
 
+JSON_WORDS = ["null", "true", "-1", "1e9", "6.0", "-0", "1e999", "0x1", "01", '"\\u006dain"', '"\\ud800"', '"\x01"', '""', "9" * 400,
+              '"' + "k" * 3000 + '"']
 KEYS = ['"main"', '"sizes"', '"steps"', '"version"', '"builtins"', '"\\u006dain"', '""', '"x"']
+
+
+SIZES = [[8, 9, 1, 0, 0, 0, 0], [4, 8, 0, 0, 0, 0, 0], [1] * 64, [1] * 65, [4, 65_532] + [0] * 5, [4, 65_533] + [0] * 5, [], [0] * 7]
 
 
 def metadata(rng):
@@ -92,8 +97,9 @@ def metadata(rng):
         return (rng.choice("[{") * depth).encode()
     if pick == 2:
         return b'{"main":0,"sizes":' + b"[" * rng.choice((127, 128, 100_000)) + b'],"steps":6,"version":1}'
-    sizes = rng.choice(([8, 9, 1, 0, 0, 0, 0], [4, 8, 0, 0, 0, 0, 0], [edge(rng) for _ in range(7)], [1] * 64, [1] * 65, [4, 65_532] + [0] * 5, [4, 65_533] + [0] * 5, [], [0] * 7))
-    fields = {"main": rng.choice((0, 0, edge(rng))), "sizes": sizes, "steps": rng.choice((6, 4, 65_536, 65_537, edge(rng))), "version": rng.choice((1, 1, 1, 2, edge(rng)))}
+    fields = {
+        "main": rng.choice((0, 0, edge(rng))), "sizes": rng.choice(SIZES + [[edge(rng) for _ in range(7)]]),
+        "steps": rng.choice((6, 4, 65_536, 65_537, edge(rng))), "version": rng.choice((1, 1, 1, 2, edge(rng)))}
     parts = [f'"{key}":{str(value).replace(" ", "")}' for key, value in fields.items()]
     for _ in range(rng.randrange(3)):
         parts.append(f"{rng.choice(KEYS)}:{json_value(rng)}")
@@ -240,14 +246,19 @@ def operand(rng):
     return cell_text(rng) if rng.random() < 0.5 else rng.choice(("0", "1", "-1", "5", str(PRIME - 1), str(PRIME), "-" + str(PRIME), str(edge(rng))))
 
 
+def label(rng):
+    return f"l{rng.randint(0, 4)}"
+
+
 def statement(rng):
     more = rng.choice((", ap++", ", ap++", ""))
     return rng.choice((
-        f"{cell_text(rng)} = {operand(rng)}{more}", f"[ap] = {operand(rng)}, ap++", f"{cell_text(rng)} = [{cell_text(rng)} + {rng.randint(0, 3)}]{more}",
-        f"{cell_text(rng)} = [[fp-5]]{more}", f"{cell_text(rng)} = {cell_text(rng)} {rng.choice('+*')} {operand(rng)}{more}",
-        f"jmp rel {operand(rng)}", f"jmp abs {operand(rng)}", f"jmp rel {operand(rng)} if {cell_text(rng)} != 0", f"call rel {operand(rng)}",
-        f"call abs {operand(rng)}", "ret", f"ap += {operand(rng)}", f"word {operand(rng)}", f"jmp l{rng.randint(0, 4)}", f"call l{rng.randint(0, 4)}",
-        f"jmp l{rng.randint(0, 4)} if {cell_text(rng)} != 0", f"l{rng.randint(0, 4)}:", "main:", "// nothing", ""))
+        f"{cell_text(rng)} = {operand(rng)}{more}", f"[ap] = {operand(rng)}, ap++", f"{cell_text(rng)} = [[fp-5]]{more}",
+        f"{cell_text(rng)} = [{cell_text(rng)} + {rng.randint(0, 3)}]{more}",
+        f"{cell_text(rng)} = {cell_text(rng)} {rng.choice('+*')} {operand(rng)}{more}",
+        f"jmp rel {operand(rng)}", f"jmp abs {operand(rng)}", f"jmp rel {operand(rng)} if {cell_text(rng)} != 0",
+        f"call rel {operand(rng)}", f"call abs {operand(rng)}", "ret", f"ap += {operand(rng)}", f"word {operand(rng)}",
+        f"jmp {label(rng)}", f"call {label(rng)}", f"jmp {label(rng)} if {cell_text(rng)} != 0", f"{label(rng)}:", "main:", "// nothing", ""))
 
 
 TAIL = ["[ap] = [fp-5], ap++", "[ap] = [fp-4], ap++", "[ap] = [fp-3], ap++", "ret"]
@@ -256,9 +267,10 @@ TAIL = ["[ap] = [fp-5], ap++", "[ap] = [fp-4], ap++", "[ap] = [fp-3], ap++", "re
 def text_at_a_limit(rng):
     """As many words as a program may have, or one more; numbers, labels and lines without measure; a text that grows its run."""
     return rng.choice((
-        "word 1\n" * rng.choice((65_536, 65_537)), "[ap] = 1, ap++\n" * rng.choice((32_768, 32_769)), "[ap] = " + "9" * 500_000, "l" * 1_000_000 + ":",
-        "[ap] = 5, ap++ " * 50_000, "\n" * 1_000_000, "".join(f"l{k}:\n" for k in range(60_000)), "a:\n" * 60_000, "jmp a\n" * 60_000 + "a:\n",
-        "[ap] = 1, ap++\njmp rel -2", "call rel 0", "ap += 65536\n[ap] = 1", "ap += 60000\n[ap] = 1\nret", "[" * 500_000, "//" + "\x00" * 500_000)).encode()
+        "word 1\n" * rng.choice((65_536, 65_537)), "[ap] = 1, ap++\n" * rng.choice((32_768, 32_769)), "[ap] = " + "9" * 500_000,
+        "l" * 1_000_000 + ":", "[ap] = 5, ap++ " * 50_000, "\n" * 1_000_000, "".join(f"l{k}:\n" for k in range(60_000)), "a:\n" * 60_000,
+        "jmp a\n" * 60_000 + "a:\n", "[ap] = 1, ap++\njmp rel -2", "call rel 0", "ap += 65536\n[ap] = 1", "ap += 60000\n[ap] = 1\nret",
+        "[" * 500_000, "//" + "\x00" * 500_000)).encode()
 
 
 def text(rng):
@@ -279,7 +291,8 @@ def text(rng):
 
 # Scripts
 
-HASHES = ["644b2c86fee53a4ad40c21efa0e8524e34c75966cf12fcbfe5a3ae40d0a8bcbd", "4ae2a31bf9da6dec8e814ee65e6495560d58ecd3a1727ee49e5279ace5919187", "0" * 64]
+HASHES = ["644b2c86fee53a4ad40c21efa0e8524e34c75966cf12fcbfe5a3ae40d0a8bcbd",
+          "4ae2a31bf9da6dec8e814ee65e6495560d58ecd3a1727ee49e5279ace5919187", "0" * 64]
 
 
 def digits(rng, data):
@@ -304,9 +317,10 @@ def line(rng, clients):
 
 def bad_line(rng, clients):
     return rng.choice((
-        f"submit {clients} 00", "submit 0 0", "submit 0 0g", "submit 00 00", "submit 0  00", " submit 0 00", "submit 0 00 ", "Submit 0 00", "submit 0",
-        f"status 0 {2**32}", "status 0 01", "status 0 -1", "status 0 0 0", f"ask 0 {HASHES[0][:-1]} 5", f"ask 0 {HASHES[0]} {PRIME}", f"ask 0 {HASHES[0]} 05",
-        "settle", "settle 0 0", "settle 99999999999999999999", "", "\x00", "end", "frob 0", f"ask 0 {HASHES[0]}" + " 1" * 3_000, "submit 0 " + "0" * 20_001))
+        f"submit {clients} 00", "submit 0 0", "submit 0 0g", "submit 00 00", "submit 0  00", " submit 0 00", "submit 0 00 ", "Submit 0 00",
+        "submit 0", f"status 0 {2**32}", "status 0 01", "status 0 -1", "status 0 0 0", f"ask 0 {HASHES[0][:-1]} 5",
+        f"ask 0 {HASHES[0]} {PRIME}", f"ask 0 {HASHES[0]} 05", "settle", "settle 0 0", "settle 99999999999999999999", "", "\x00", "end",
+        "frob 0", f"ask 0 {HASHES[0]}" + " 1" * 3_000, "submit 0 " + "0" * 20_001))
 
 
 def good_script(rng, clients):
@@ -318,8 +332,8 @@ def good_script(rng, clients):
 
 def script_at_a_limit(rng):
     """As many lines as a script may have, or one more; a line without measure."""
-    return rng.choice((b"status 0 0\n" * MOST_LINES, b"settle 0\n" * (MOST_LINES + 1), b"submit 0 " + b"0" * 6_000_000 + b"\n", b"submit 0 \n" * 5_000,
-                       f"ask 0 {HASHES[0]}".encode() + b" 5" * 200_000 + b"\n", b"\n" * 70_000, b"x" * 3_000_000))
+    return rng.choice((b"status 0 0\n" * MOST_LINES, b"settle 0\n" * (MOST_LINES + 1), b"submit 0 " + b"0" * 6_000_000 + b"\n",
+                       b"submit 0 \n" * 5_000, f"ask 0 {HASHES[0]}".encode() + b" 5" * 200_000 + b"\n", b"\n" * 70_000, b"x" * 3_000_000))
 
 
 def script(rng, clients):

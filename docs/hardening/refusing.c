@@ -3,7 +3,7 @@
 
    REFUSING_KIND    allocation, read, write or thread; none where it is absent
    REFUSING_AT      the number of the call, counted from 1
-   REFUSING_HOW     once: that call fails; onward: that call and all later ones of its kind; short: it gives or takes one byte
+   REFUSING_HOW     once: that call fails; stretch: that call and the next 999 of its kind; short: it gives or takes one byte
    REFUSING_MOST    so many bytes at most for each read and each write; 0 for no limit
    REFUSING_COUNTS  a file of 40 bytes: five numbers of 8 bytes, the calls by kind in that order, and the calls that were refused
 
@@ -22,7 +22,9 @@
 
 enum kind { ALLOCATION, READ, WRITE, THREAD, KINDS };
 
-enum how { ONCE, ONWARD, SHORT };
+enum how { ONCE, STRETCH, SHORT };
+
+#define STRETCH_CALLS 1000
 
 static const char *const kind_names[KINDS] = {"allocation", "read", "write", "thread"};
 
@@ -53,7 +55,7 @@ __attribute__((constructor)) static void get_ready(void) {
     start_next = (start_thread *)dlsym(RTLD_NEXT, "pthread_create");
     at = number_in("REFUSING_AT");
     most = number_in("REFUSING_MOST");
-    how = way && !strcmp(way, "onward") ? ONWARD : way && !strcmp(way, "short") ? SHORT : ONCE;
+    how = way && !strcmp(way, "stretch") ? STRETCH : way && !strcmp(way, "short") ? SHORT : ONCE;
     for (int k = 0; kind && k < KINDS; k++)
         if (!strcmp(kind, kind_names[k])) chosen = k;
     int opened = file ? open(file, O_RDWR) : -1;
@@ -67,7 +69,8 @@ __attribute__((constructor)) static void get_ready(void) {
 static int is_named(enum kind kind) {
     if (!counts) return 0;
     unsigned long number = __atomic_add_fetch(&counts[kind], 1, __ATOMIC_RELAXED);
-    if ((int)kind != chosen || (how == ONWARD ? number < at : number != at)) return 0;
+    unsigned long last = how == STRETCH ? at + STRETCH_CALLS - 1 : at;
+    if ((int)kind != chosen || number < at || number > last) return 0;
     __atomic_add_fetch(&counts[KINDS], 1, __ATOMIC_RELAXED);
     return 1;
 }

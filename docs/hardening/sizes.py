@@ -49,7 +49,8 @@ def with_place(offset):
     stack = frame() + [place(segment, 0) for segment in (2, 3, 4)]
     data = pie(4, {0: numbers([COPY[2], COPY[3], COPY[4], RETURN]), 1: stack})
     text, cells = parts_of(data)
-    return bytes_of(put_together(text.replace(b"4,8,0,0,0,0,0", b"4,8,0,0,0,0,0,1"), cells + [bytes.fromhex("0007000000000001") + (7 << 32 | offset).to_bytes(8, "big")]))
+    eighth = bytes.fromhex("0007000000000001") + (7 << 32 | offset).to_bytes(8, "big")
+    return bytes_of(put_together(text.replace(b"4,8,0,0,0,0,0", b"4,8,0,0,0,0,0,1"), cells + [eighth]))
 
 
 def submits(*counted):
@@ -74,6 +75,8 @@ def long_certificate(rounds):
 
 
 EMPTY_PIE, LONG_RUN, LONG_PROGRAM = example("empty.pie"), counting_down(MOST_ROUNDS), long_program(65_528)
+FULL_CLIENTS = [(client, 4, LONG_PROGRAM) for client in range(16)]
+FIVE_TEXT = b"\n" + example("five.casm")
 FULL_STEPS = "batch 0 steps 262144 jobs 0.0 0.1 0.2 0.3"
 BATCH, REPLAY = "batch --clients {}", "replay"
 
@@ -104,10 +107,11 @@ ROWS = [
     ("admitted sizes per client", "262,144", BATCH.format(1), submits((0, 4, LONG_PROGRAM)), 0, "client 0 submit admitted 3 .*"),
     ("", "262,156", BATCH.format(1), submits((0, 4, LONG_PROGRAM), (0, 1, EMPTY_PIE)), 0, "client 0 submit quota 3 262156 262144"),
     ("clients", "0", BATCH.format(0), bytes_of(b""), 2, None),
-    ("", "16, all at their quota of sizes", BATCH.format(16), submits(*[(c, 4, LONG_PROGRAM) for c in range(16)]), 0, "batch 15 steps 16 jobs 15.0 15.1 15.2 15.3"),
+    ("", "16, all at their quota of sizes", BATCH.format(16), submits(*FULL_CLIENTS), 0, "batch 15 steps 16 jobs 15.0 15.1 15.2 15.3"),
     ("", "17", BATCH.format(17), bytes_of(b""), 2, None),
     ("workers", "0", "serve --clients 16 --workers 0", bytes_of(b""), 2, None),
-    ("", "8, 16 clients at their quota of sizes", "serve --clients 16 --workers 8", submits(*[(c, 4, LONG_PROGRAM) for c in range(16)]), 0, "client 15 submit admitted 3 .*"),
+    ("", "8, 16 clients at their quota of sizes", "serve --clients 16 --workers 8", submits(*FULL_CLIENTS), 0,
+     "client 15 submit admitted 3 .*"),
     ("", "9", "serve --clients 16 --workers 9", bytes_of(b""), 2, None),
     ("lines of a script", "65,536", BATCH.format(1), bytes_of(b"status 0 0\n" * 65_536), 0, "client 0 status 0 unknown"),
     ("", "65,537", BATCH.format(1), bytes_of(b"status 0 0\n" * 65_537), 3, "script 65537 7"),
@@ -115,8 +119,8 @@ ROWS = [
     ("", "201,326,593", REPLAY, filled(b"", b"\0", b"", MOST_INPUT + 1), 7, None),
     ("", "201,326,589, a certificate", "check", long_certificate(1_398_096), 0, "accepted alone 5592392 outputs 1"),
     ("", "201,326,593", "check", filled(CERTIFICATE_MAGIC, b"\0", b"", MOST_INPUT + 1), 7, None),
-    ("", "201,326,592, a text", "run", filled(b"//", b"x", b"\n" + example("five.casm"), MOST_INPUT), 0, None),
-    ("", "201,326,593", "run", filled(b"//", b"x", b"\n" + example("five.casm"), MOST_INPUT + 1), 7, None),
+    ("", "201,326,592, a text", "run", filled(b"//", b"x", FIVE_TEXT, MOST_INPUT), 0, None),
+    ("", "201,326,593", "run", filled(b"//", b"x", FIVE_TEXT, MOST_INPUT + 1), 7, None),
     ("", "201,326,592, a script", BATCH.format(1), filled(b"submit 0 ", b"00", b"\n", MOST_INPUT), 0, "client 0 submit refused 1 100663291"),
     ("", "201,326,593", BATCH.format(1), filled(b"submit 0 ", b"0", b"\n", MOST_INPUT + 1), 7, None),
 ]

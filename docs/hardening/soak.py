@@ -26,7 +26,9 @@ MEBIBYTE = 2**20
 # Address space of a run, in bytes. The least one has room for the program and the C library, and for few threads.
 MEMORIES = [48 * MEBIBYTE, 64 * MEBIBYTE, 128 * MEBIBYTE, 256 * MEBIBYTE, 1024 * MEBIBYTE, 4096 * MEBIBYTE]
 SHORT_SEED, SHORT_RUNS = 1, 260
-ODD_WORDS = ["", "replay", "--clients", "--workers", "--batch", "1", "0", "17", "9", "4294967296", "-1", "+1", "1 ", "--", "-h", "--help", "--version", "\udcff", "x" * 5_000, "--clients=1", "--clients=1=1"]
+ODD_WORDS = ["", "replay", "--clients", "--workers", "--batch", "1", "0", "17", "9", "4294967296", "-1", "+1", "1 ", "--", "-h", "--help",
+             "--version", "\udcff", "x" * 5_000, "--clients=1", "--clients=1=1"]
+KNOWN = ("replay", "place", "list", "check", "run", "boot", "make", "trial", "batch", "export", "serve")
 
 
 class Run:
@@ -69,14 +71,14 @@ class Run:
 
     def odd_words(self):
         """Words of commands with others among them."""
-        known = ["replay", "place", "list", "check", "run", "boot", "make", "trial", "batch", "export", "serve", "frob", "REPLAY"]
-        self.words = [self.rng.choice(known), *self.rng.choices(ODD_WORDS, k=self.rng.randrange(6))]
+        self.words = [self.rng.choice(KNOWN + ("frob", "REPLAY")), *self.rng.choices(ODD_WORDS, k=self.rng.randrange(6))]
         self.data = hostile.noise(self.rng)
 
     def bare(self):
         """A command that reads nothing."""
         most = 12 if self.is_short else 256
-        self.words = self.rng.choice((["boot"], ["make", str(self.rng.randint(0, most + 1))], ["trial", str(self.rng.randint(1, most))]))
+        jobs = str(self.rng.randint(0, most + 1))
+        self.words = self.rng.choice((["boot"], ["make", jobs], ["trial", jobs]))
         self.data = b""
 
     def source(self):
@@ -179,12 +181,12 @@ def runs_on(run, end):
 # Runs
 
 def name_of(run):
-    known = ("replay", "place", "list", "check", "run", "boot", "make", "trial", "batch", "export", "serve")
-    return run.words[0] if run.words[0] in known else "other words"
+    return run.words[0] if run.words[0] in KNOWN else "other words"
 
 
 def table(ends):
-    print("| Command | Runs | " + " | ".join(f"{n} {name}" for n, (name, _, _) in STATUSES.items()) + " | ran on |\n" + "|---" * (len(STATUSES) + 3) + "|")
+    names = [f"{number} {name}" for number, (name, _, _) in STATUSES.items()]
+    print("| Command | Runs | " + " | ".join(names) + " | ran on |\n" + "|---" * (len(STATUSES) + 3) + "|")
     for name in sorted(ends):
         counts = ends[name]
         cells = [counts[status] or "" for status in [*STATUSES, None]]
