@@ -41,13 +41,13 @@ class End:
         return f"status {self.status}, output {self.output[:120]!r}, error {self.told[:120]!r}"
 
 
+# No process that these scripts start leaves a core file.
+resource.setrlimit(resource.RLIMIT_CORE, (0, resource.getrlimit(resource.RLIMIT_CORE)[1]))
+
+
 def limited(memory):
-    """Has a process begin with so many bytes of address space at most, and with no core file."""
-    def begin():
-        resource.setrlimit(resource.RLIMIT_CORE, (0, 0))
-        if memory:
-            resource.setrlimit(resource.RLIMIT_AS, (memory, memory))
-    return begin
+    """Has a process begin with so many bytes of address space at most. A script with threads gives no limit: none could begin so."""
+    return (lambda: resource.setrlimit(resource.RLIMIT_AS, (memory, memory))) if memory else None
 
 
 def ended(program, words, source=subprocess.DEVNULL, output=subprocess.PIPE, memory=None, environment=None,
