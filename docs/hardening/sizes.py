@@ -1,12 +1,12 @@
 #!/usr/bin/env python3
 """For each limit the largest input that it allows and the least that it doesn't, through the program, with time and peak memory.
 
-Usage: sizes.py [--program FILE] [--only WORD]    (prints a table for docs/BENCHMARK.md; ends with 1 where an answer is another)
+Usage: sizes.py [--program FILE] [--only WORD]    (needs GNU time; prints a table, and ends with 1 where an answer is another)
 
-Time is elapsed time of one process, peak the greatest resident size. The largest inputs take some hundreds of megabytes on disk.
+Time is elapsed time of one process, peak the greatest resident size of the program. The largest inputs take some hundreds of megabytes
+on disk. The table is for docs/BENCHMARK.md.
 """
 import argparse
-import os
 import re
 import subprocess
 import sys
@@ -18,6 +18,7 @@ from hostile import CERTIFICATE_MAGIC, parts_of, put_together
 from make_certs import write as write_certificate
 from make_pies import COPY, RETURN, counting_down, frame, long_program, numbers, pie, place
 
+TIME = "/usr/bin/time"
 MOST_PIE, MOST_INPUT = 2_097_152, 201_326_592
 MOST_STEPS, MOST_ROUNDS = 65_536, 16_382
 
@@ -127,17 +128,15 @@ ROWS = [
 
 
 def measured(program, words, file):
-    """Status, output, seconds and the peak in KiB of one run over this file."""
+    """Status, output, seconds and the peak in KiB of one run over this file. `time` tells the peak of the program alone."""
     file.seek(0)
-    with tempfile.TemporaryFile() as output:
+    with tempfile.TemporaryFile() as output, tempfile.NamedTemporaryFile() as peak:
         begun = time.monotonic()
-        process = subprocess.Popen([program, *words.split()], stdin=file, stdout=output, stderr=subprocess.DEVNULL)
-        _, status, used = os.wait4(process.pid, 0)
-        process.returncode = 0
+        run = subprocess.run([TIME, "-q", "-f", "%M", "-o", peak.name, program, *words.split()],
+                             stdin=file, stdout=output, stderr=subprocess.DEVNULL, check=False)
         seconds = time.monotonic() - begun
         output.seek(0)
-        ended_by = -os.WTERMSIG(status) if os.WIFSIGNALED(status) else os.WEXITSTATUS(status)
-        return ended_by, output.read(), seconds, used.ru_maxrss
+        return run.returncode, output.read(), seconds, int(peak.read().split()[-1])
 
 
 def shown(output, wanted):
