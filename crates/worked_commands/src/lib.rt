@@ -11,6 +11,8 @@ mod check;
 #[cfg(test)]
 mod exits;
 #[cfg(test)]
+mod hostile;
+#[cfg(test)]
 mod list;
 #[cfg(test)]
 mod replay;

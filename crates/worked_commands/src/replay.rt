@@ -8,8 +8,8 @@ use worked_vectors::files::{
     HASH0, HASH0_OVER, JUMP, PROD, RANGE_7, RANGE_MAX, RANGE_OVER, TALL, UNDER,
 };
 
-// The line is the answer, and the status says whether it is a refusal.
-fn expect_line(rt: &impl Abort, found: &(u8, Vec<u8>), line: &str) {
+/// The line is the answer, and the status says whether it is a refusal.
+pub fn expect_line(rt: &impl Abort, found: &(u8, Vec<u8>), line: &str) {
     assert_eq!(rt; found.1.as_slice(), line.as_bytes(), "{line}");
     assert_eq!(rt; found.0, u8::from(line.starts_with("refused")), "{line}");
 }
@@ -77,8 +77,8 @@ fn named_files_have_their_lines(rt: HostRuntime) -> Result<(), Fail> {
     Ok(())
 }
 
-// A file with other bytes at these places.
-fn changed(alloc: Global, digits: &str, changes: &[(usize, &[u8])]) -> Result<Vec<u8>, Fail> {
+/// A file with other bytes at these places.
+pub fn changed(alloc: Global, digits: &str, changes: &[(usize, &[u8])]) -> Result<Vec<u8>, Fail> {
     let mut file = decode(alloc, digits)?;
     for (at, bytes) in changes {
         for (i, byte) in bytes.iter().enumerate() {

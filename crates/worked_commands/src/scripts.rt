@@ -194,6 +194,7 @@ fn a_sink_that_fails_holds_a_beginning(rt: HostRuntime) -> Result<(), Fail> {
         let wanted = if failing <= calls { 5 } else { 0 };
         assert_eq!(rt; ended.status.number(), wanted);
         assert!(rt; text.as_slice().starts_with(sink.bytes()));
+        assert!(rt; failing <= calls || sink.bytes().len() == text.len());
         assert!(rt; ended.desk.is_some());
     }
     Ok(())
