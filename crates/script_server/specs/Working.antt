@@ -1,0 +1,5 @@
+pub mod PassLines
+pub mod Dealing
+pub mod Threads
+pub mod Closing
+pub mod Served
