@@ -4,3 +4,10 @@ pub mod Dealing
 pub mod Closes
 pub mod Threads
 pub mod Ending
+pub mod FreeDesks
+pub mod PassLists
+pub mod ClosedDesks
+pub mod ClosedJournals
+pub mod EndedPasses
+pub mod EndedJournals
+pub mod ServedDesks

@@ -3,3 +3,4 @@ pub mod Dealing
 pub mod Threads
 pub mod Closing
 pub mod Served
+pub mod FreeBatches

@@ -1,14 +1,25 @@
-ghost use Rattle.std.specs.Prelude.{◌≡◌, ◌≢◌, ℕ, true};
+// Whether a worker, or a client that settled, still holds a batch.
+ghost use Rattle.std.specs.Prelude.{IsTrue};
 ghost use Rattle.desk_core.specs.DeskRecords.{plain_of};
-ghost use Rattle.desk_core.specs.Desks.{phase_at};
-ghost use Rattle.desk_core.specs.declared.phase.Phase.TheVariants.{Taken};
+ghost use Rattle.script_runner.specs.Working.Doing.{NoneTaken};
+ghost use Rattle.script_server.specs.Working.FreeBatches.{IsFreeBatch};
 
-use desk_core::Desk;
+use desk_core::{Batch, Desk, Phase};
 
-/// Whether no batch is taken (a stand-in).
+/// Whether no batch of the desk is taken by anybody.
 pub(crate) fn none_is_taken(desk: &Desk) -> bool
-    ensures free { result ≡ true → (b by : ℕ) → phase_at (plain_of desk.now) b ≢ Taken by }
+    ensures { IsTrue result → NoneTaken (plain_of desk.now) }
 {
-    let _ = desk;
-    false
+    for batch in desk.batches() {
+        if !is_free(batch) {
+            return false;
+        }
+    }
+    true
+}
+
+fn is_free(batch: &Batch) -> bool
+    ensures { IsTrue result → IsFreeBatch batch.now }
+{
+    !matches!(batch.phase, Phase::Taken(_))
 }

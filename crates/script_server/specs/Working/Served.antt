@@ -1,8 +1,10 @@
--- The passes as they stand when all threads have ended.
-use Rattle.std.specs.Prelude.{◌≡◌, ℕ, ◌+◌, List, [], ◌∷◌, ◌++◌, All, map, Ok}
+-- What the passes have when all threads have ended, and what the desk that is taken out of the lock has then.
+use Rattle.std.specs.Prelude.{ℕ, ◌≡◌, ◌+◌, List, [], ◌∷◌, ◌++◌, All, Ok, map}
 use Rattle.std.specs.List.{AllZip, range_with_len}
 use Rattle.atomic_table.specs.Seated.{TableId}
 use Rattle.batch_workers.specs.Works.{IsWorkOf}
+use Rattle.desk_core.specs.DeskRecords.{DeskRecord}
+use Rattle.desk_core.specs.GoodDesks.{IsGoodDesk}
 use Rattle.desk_core.specs.Journals.{no_pie}
 use Rattle.desk_core.specs.declared.entry.FullEntry.{FullEntry}
 use Rattle.desk_core.specs.declared.event.Event.TheVariants as event
@@ -10,9 +12,9 @@ use Rattle.desk_core.specs.declared.reply.Reply.TheVariants as reply
 use Rattle.desk_script.specs.Lines.{ScriptLine}
 use Rattle.script_runner.specs.Lines.{DoesLines, client_lines}
 use Rattle.session_desk.specs.PassTurns.{EventTurn}
-use Rattle.session_desk.specs.Sessions.{with_pass}
+use Rattle.session_desk.specs.Sessions.{passed_journal, with_pass}
 use Rattle.turn_lock.specs.Journals.{IsPrefix, entries_by}
-use Rattle.turn_lock.specs.Passes.{Token}
+use Rattle.turn_lock.specs.Passes.{IsNumberOf, Token}
 
 -- a client's pass that has done its lines
 pub record ClientDone (lock : TableId) (clients : ℕ) (lines : List ScriptLine) (c : ℕ) (p : Token FullEntry) : Type 0 where
@@ -53,3 +55,11 @@ pub record AllEnded (lock : TableId) (clients workers : ℕ) (lines : List Scrip
   pub clients_done : AllZip (ClientDone lock clients lines) (range_with_len 0 clients) done
   pub workers_came : AllZip (WorkerCame lock clients) (range_with_len clients workers) came
   pub closed : PassClosed lock clients (clients + workers) done own
+
+-- the desk that is taken out of the lock, where these are all its passes
+pub record TakenOut (passes : List (Token FullEntry)) (d : DeskRecord) : Type 0 where
+  pub good : IsGoodDesk d
+  pub width : All (λ p. d.clients ≡ p.width) passes
+  pub seen : All (λ p. IsPrefix p.seen (passed_journal d)) passes
+  pub mine : All (λ p. entries_by p.number (passed_journal d) ≡ p.mine) passes
+  pub others : All (λ e. IsNumberOf passes e.0) (passed_journal d)
