@@ -2,7 +2,7 @@
 use Rattle.std.proofs.Common.{◌≡◌, ℕ, ◌==◌, Bool, true, false, cond, List, [], ◌∷◌, ◌++◌, length, map, refl, sym, ap, ◌∙◌}
 use Rattle.std.specs.Prelude.{Option, Some, None}
 use Rattle.cairo_model.specs.Pie.Records.{PieRecord}
-use Rattle.desk_core.specs.DeskRecords.{DeskRecord, journal_of, plain_of}
+use Rattle.desk_core.specs.DeskRecords.{DeskRecord, journal_of}
 use Rattle.desk_core.specs.Desks.{PlainDesk, empty_desk, first_sealed, is_taken_by, phase_at, waiting_jobs}
 use Rattle.desk_core.specs.GoodDesks.{IsGoodDesk}
 use Rattle.desk_core.specs.Journals.{Move, after_move, move_of, played}

@@ -1,5 +1,5 @@
 -- A journal in which the clients' lines were done before another pass closed the desk.
-use Rattle.std.proofs.Common.{◌≡◌, ℕ, ◌<◌, ◌≤◌, ◌==◌, Bool, true, false, cond, List, [], ◌∷◌, ◌++◌, map, slice_index_or, refl, sym, ap, ◌∙◌, subst, arith, append_assoc}
+use Rattle.std.proofs.Common.{◌≡◌, ℕ, ◌<◌, ◌≤◌, ◌==◌, Bool, true, false, cond, List, [], ◌∷◌, ◌++◌, slice_index_or, refl, sym, ap, ◌∙◌, subst, arith, append_assoc}
 use Rattle.std.specs.List.{AllZip, cons_option}
 use Rattle.std.specs.Prelude.{All, Option, Some, None, filter}
 use Rattle.std.proofs.lemmas.Bool.{ne_eqb}
@@ -19,7 +19,7 @@ use Rattle.desk_core.specs.declared.event.OfferNote.{OfferNote}
 use Rattle.desk_core.specs.declared.reply.Reply.TheVariants as reply
 use Rattle.desk_script.specs.Lines.{ScriptLine, asks, asks_status, settles, submits}
 use Rattle.desk_script.specs.OwnLines.{AreOwnLines, IsNoteOfFile, handed_file, handed_files, submit_lines}
-use Rattle.script_runner.specs.Lines.{DoesLines, IsEntryOf, client_lines, entries_under, is_request, is_request_line, line_client, requests_in}
+use Rattle.script_runner.specs.Lines.{DoesLines, IsEntryOf, client_lines, entries_under, is_request_line, line_client, requests_in}
 use Rattle.script_runner.specs.Serving.{RepliesByItself, ServesLines}
 use Rattle.script_runner.proofs.LineEntries.{IsNoRequest, IsUnder, exactly_requests, if_false, under_other, works_request_none}
 use Rattle.script_runner.proofs.OwnReplies.{IsOwnEvent, OwnOf, replies_by_itself, works_own}

@@ -1,17 +1,15 @@
 -- The journal of the desk that is taken out: its clients' lines were done before the caller's pass closed it.
-use Rattle.std.proofs.Common.{◌≡◌, ℕ, ◌+◌, ◌<◌, ◌==◌, Bool, true, false, List, [], ◌∷◌, ◌++◌, map, slice_index_or, refl, sym, ap, ◌∙◌, subst, arith, append_assoc}
-use Rattle.std.specs.Prelude.{All, Contains}
+use Rattle.std.proofs.Common.{◌≡◌, ℕ, ◌+◌, ◌<◌, ◌==◌, false, List, [], ◌∷◌, ◌++◌, map, refl, sym, ap, ◌∙◌, subst, arith, append_assoc}
+use Rattle.std.specs.Prelude.{All}
 use Rattle.std.proofs.lemmas.Bool.{eq-eqb, ne_eqb}
 use Rattle.std.proofs.lemmas.List.{append-nil, append_cancel_left, map-append}
-use Rattle.std.proofs.lemmas.List.Elements.{All-contains, All-head, All-same, All-tail, All-weaker, filter-append}
+use Rattle.std.proofs.lemmas.List.Elements.{All-contains, All-tail, All-weaker, filter-append}
 use Rattle.atomic_table.specs.Seated.{TableId}
 use Rattle.batch_workers.specs.Works.{IsWorkOf}
 use Rattle.desk_core.specs.DeskRecords.{DeskRecord, journal_of}
 use Rattle.desk_core.specs.Journals.{no_pie}
-use Rattle.desk_core.specs.Turns.{entry_of}
 use Rattle.desk_core.specs.declared.entry.FullEntry.{FullEntry}
 use Rattle.desk_core.specs.declared.event.Event.TheVariants as event
-use Rattle.desk_core.specs.declared.reply.Reply.TheVariants as reply
 use Rattle.desk_script.specs.Lines.{ScriptLine}
 use Rattle.script_runner.specs.Lines.{DoesLines, client_lines, entries_under}
 use Rattle.script_runner.proofs.LineEntries.{IsNoRequest, IsUnder, if_false, if_true, works_request_none}
