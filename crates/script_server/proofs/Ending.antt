@@ -8,8 +8,9 @@ use Rattle.desk_core.specs.declared.entry.FullEntry.{FullEntry}
 use Rattle.desk_script.specs.Lines.{ScriptLine}
 use Rattle.script_server.specs.Working.Closing.{PassCloses, SeesOn}
 use Rattle.script_server.specs.Working.Dealing.{AreDealt}
+use Rattle.script_server.specs.Working.PassLines.{GivesLines, MadeWork}
 use Rattle.script_server.specs.Working.Served.{AllEnded, ClientDone, PassClosed, WorkerCame}
-use Rattle.script_server.specs.Working.Threads.{GivesLines, HasCome, HasGivenDone, HaveCome, IsClient, IsWorker, MadeWork}
+use Rattle.script_server.specs.Working.Threads.{HasCome, HasGivenDone, HaveCome, IsClient, IsWorker}
 use Rattle.script_server.specs.declared.clients.Client.{Client}
 use Rattle.script_server.specs.declared.passes.Dealt.{Dealt}
 use Rattle.script_server.specs.declared.workers.Worker.{Worker}

@@ -1,7 +1,8 @@
 ghost use Rattle.std.specs.Prelude.{◌≡◌, ◌<◌, map};
 ghost use Rattle.desk_script.specs.Views.{line_view};
 ghost use Rattle.script_server.specs.Working.Dealing.{IsClientPass};
-ghost use Rattle.script_server.specs.Working.Threads.{GivesLines, HasGiven, IsClient};
+ghost use Rattle.script_server.specs.Working.PassLines.{GivesLines};
+ghost use Rattle.script_server.specs.Working.Threads.{HasGiven, IsClient};
 
 use crate::lines::do_lines;
 use batch_runner::Maker;
@@ -19,10 +20,6 @@ use turn_lock::Pass;
 pub(crate) struct Doing(pub(crate) Snapshot<Pass<Held>>, pub(crate) Snapshot<Script>);
 
 impl Promise<(Pass<Held>, bool)> for Doing {
-    ghost use Rattle.std.specs.Prelude.{map};
-    ghost use Rattle.desk_script.specs.Views.{line_view};
-    ghost use Rattle.script_server.specs.Working.PassLines.{GivesLines};
-
     ghost kept_by = { λ p r. GivesLines (map line_view p.1.value.lines.items) p.0.value r.0 r.1 };
 }
 

@@ -56,11 +56,11 @@ fn do_if_own<R: Threads + Wait + Sync, M: Maker, G: Gate>(
     ensures same { IsSamePass pass.old pass.new }
     ensures did { IfOk result (λ _. PassDoesLines (client_lines pass.old.number (line_view line.now ∷ [])) pass.old pass.new) }
 {
-    if whose(line) == pass.number() {
-        do_line(rt, alloc, desk, pass, maker, gate, bell, line)
-    } else {
-        Ok(())
+    if whose(line) != pass.number() {
+        return Ok(());
     }
+    do_line(rt, alloc, desk, pass, maker, gate, bell, line)?;
+    Ok(())
 }
 
 // Whose line it is.

@@ -1,8 +1,5 @@
-ghost use Rattle.std.specs.Prelude.{◌≡◌, ◌≤◌, ◌<◌, ◌+◌, ◌∷◌, ◌++◌, ℕ, IfOk, [], map, vec_len};
-ghost use Rattle.std.specs.List.{range_with_len};
-ghost use Rattle.atomic_table.specs.Seated.{TableId};
-ghost use Rattle.script_server.specs.Working.Dealing.{AreDealt, HasRoomFor};
-ghost use Rattle.turn_lock.specs.Passes.{fresh};
+ghost use Rattle.std.specs.Prelude.{◌≡◌, ◌≤◌, ◌<◌, ◌+◌, ◌^◌, ◌∷◌, ◌++◌, [], IfOk, vec_len};
+ghost use Rattle.script_server.specs.Working.Dealing.{HasRoomFor};
 
 use crate::clients::Client;
 use crate::workers::Worker;

@@ -1,4 +1,4 @@
-ghost use Rattle.std.specs.Prelude.{◌≡◌, ℕ, IfOk, IfSome, map, vec_len};
+ghost use Rattle.std.specs.Prelude.{◌<◌, ◌+◌, ◌^◌, ℕ, IfOk, IfSome, map, vec_len};
 ghost use Rattle.desk_script.specs.Views.{line_view};
 ghost use Rattle.script_server.specs.Working.Dealing.{AreDealt, CanAllStart, HasRoomFor};
 ghost use Rattle.script_server.specs.Working.Served.{AllEnded};

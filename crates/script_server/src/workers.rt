@@ -1,6 +1,7 @@
 ghost use Rattle.std.specs.Prelude.{◌≡◌};
 ghost use Rattle.script_server.specs.Working.Dealing.{CanStart};
-ghost use Rattle.script_server.specs.Working.Threads.{HasCome, IsWorker, MadeWork};
+ghost use Rattle.script_server.specs.Working.PassLines.{MadeWork};
+ghost use Rattle.script_server.specs.Working.Threads.{HasCome, IsWorker};
 
 use batch_runner::Maker;
 use batch_workers::{Bell, Gate, work};
@@ -17,8 +18,6 @@ use turn_lock::Pass;
 pub(crate) struct Working(pub(crate) Snapshot<Pass<Held>>);
 
 impl Promise<Pass<Held>> for Working {
-    ghost use Rattle.script_server.specs.Working.Threads.{MadeWork};
-
     ghost kept_by = { λ p r. MadeWork p.0.value r };
 }
 

@@ -2,26 +2,17 @@
 use Rattle.std.specs.Prelude.{◌≡◌, Bool, true, List, ◌++◌, map}
 use Rattle.std.specs.List.{AllZip}
 use Rattle.atomic_table.specs.Seated.{TableId}
-use Rattle.batch_workers.specs.SharedWorks.{PassWorks}
 use Rattle.desk_core.specs.declared.entry.FullEntry.{FullEntry}
 use Rattle.desk_script.specs.Lines.{ScriptLine}
 use Rattle.desk_script.specs.Views.{line_view}
-use Rattle.script_runner.specs.Lines.{client_lines}
-use Rattle.script_server.specs.Working.PassLines.{IsSamePass, PassDoesLines}
+use Rattle.script_server.specs.Working.PassLines.{GivesLines, MadeWork}
 use Rattle.script_server.specs.declared.clients.Client.{Client}
 use Rattle.script_server.specs.declared.clients.Client.TheVariants as client
 use Rattle.script_server.specs.declared.workers.Worker.{Worker}
 use Rattle.script_server.specs.declared.workers.Worker.TheVariants as worker
-use Rattle.turn_lock.specs.Journals.{entries_by}
 use Rattle.turn_lock.specs.Passes.{Token}
 
 -- ---- clients
-
--- what a client's thread gives back: its pass, which has seen all its own entries, with its lines of these done where it says so
-pub record GivesLines (lines : List ScriptLine) (old new : Token FullEntry) (done : Bool) : Type 0 where
-  pub same : IsSamePass old new
-  pub own : entries_by new.number new.seen ≡ new.mine
-  pub did : done ≡ true → PassDoesLines (client_lines old.number lines) old new
 
 -- the client was started with this pass, to do its lines of these
 abbrev pub IsClient : List ScriptLine → Token FullEntry → Client → Type 0
@@ -42,13 +33,6 @@ IsClientAt lock (client.Thread handle) = handle.promise.0.value.lock ≡ lock
 IsClientAt lock (client.Here given done) = given.lock ≡ lock
 
 -- ---- workers
-
-abbrev pub AnyEnd : List FullEntry → Type 0
-AnyEnd es = Unit {0}
-
--- the pass made a worker's entries alone
-abbrev pub MadeWork : Token FullEntry → Token FullEntry → Type 0
-MadeWork old new = PassWorks AnyEnd old new
 
 -- the worker was started with this pass
 abbrev pub IsWorker : Token FullEntry → Worker → Type 0
