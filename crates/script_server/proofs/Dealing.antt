@@ -1,5 +1,5 @@
 -- The passes of a new desk are dealt, and each of them can start.
-use Rattle.std.proofs.Common.{◌≡◌, ℕ, zero, suc, ◌+◌, ◌<◌, List, [], ◌∷◌, ◌++◌, map, length, refl, sym, ap, ◌∙◌, subst, arith, length-append}
+use Rattle.std.proofs.Common.{◌≡◌, ℕ, zero, suc, ◌+◌, ◌<◌, List, [], ◌∷◌, ◌++◌, map, length, vec_len, refl, sym, ap, ◌∙◌, subst, arith, length-append}
 use Rattle.std.specs.List.{range_with_len}
 use Rattle.std.specs.Prelude.{All}
 use Rattle.std.proofs.lemmas.List.Elements.{All-cons, All-map, All-nil, All-same}
@@ -22,14 +22,18 @@ whole_range f c w n count =
     ∙ ap (λ (l : List (Token FullEntry)). map f (range_with_len 0 c) ++ l) (ap (λ (k : ℕ). map f (range_with_len k (w + 1))) from ∙ map-range_with_len_more f c w (c + w) refl))
 
 pub are_dealt : (lock : TableId) (c w n : ℕ) (whole : List (Token FullEntry)) (d : Dealt) → n ≡ c + w + 1 → whole ≡ map (fresh lock c) (range_with_len 0 n)
-    → whole ≡ d.clients.items ++ (d.workers.items ++ d.own ∷ []) → length d.clients.items ≡ c → AreDealt lock c w d
+    → whole ≡ d.clients.items ++ (d.workers.items ++ d.own ∷ []) → vec_len d.clients ≡ c → AreDealt lock c w d
 are_dealt lock c w n whole d count are cut len =
     let f : ℕ → Token FullEntry = fresh lock c in
-    let first = cut_same d.clients.items (map f (range_with_len 0 c)) (d.workers.items ++ d.own ∷ []) (map f (range_with_len c w) ++ f (c + w) ∷ []) (len ∙ sym (length-map-range_with_len f 0 c)) (sym cut ∙ (are ∙ whole_range f c w n count)) in
+    let first = cut_same d.clients.items (map f (range_with_len 0 c)) (d.workers.items ++ d.own ∷ []) (map f (range_with_len c w) ++ f (c + w) ∷ []) (sym d.clients.ok.0 ∙ (len ∙ sym (length-map-range_with_len f 0 c))) (sym cut ∙ (are ∙ whole_range f c w n count)) in
     let rest : length (d.workers.items ++ d.own ∷ []) ≡ length (map f (range_with_len c w) ++ f (c + w) ∷ []) = ap length first.1 in
     let long : length d.workers.items ≡ length (map f (range_with_len c w)) = omega (arith, rest, length-append d.workers.items (d.own ∷ []), length-append (map f (range_with_len c w)) (f (c + w) ∷ [])) in
     let second = cut_same d.workers.items (map f (range_with_len c w)) (d.own ∷ []) (f (c + w) ∷ []) long first.1 in
     record { to_clients = first.0; to_workers = second.0; to_caller = same_last d.own (f (c + w)) second.1 }
+
+-- so many workers have one
+pub worker_count : (lock : TableId) (c w : ℕ) (d : Dealt) → AreDealt lock c w d → vec_len d.workers ≡ w
+worker_count lock c w d are = d.workers.ok.0 ∙ (ap length are.to_workers ∙ length-map-range_with_len (fresh lock c) c w)
 
 -- ---- fresh passes can start
 

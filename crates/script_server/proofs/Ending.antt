@@ -1,5 +1,5 @@
 -- The passes as all threads have ended: of the clients, of the workers, and the caller's own.
-use Rattle.std.proofs.Common.{◌≡◌, ℕ, ◌+◌, true, List, [], ◌∷◌, ◌++◌, map, refl, ap, ◌∙◌, subst, append_assoc}
+use Rattle.std.proofs.Common.{◌≡◌, ℕ, ◌+◌, true, List, [], ◌∷◌, ◌++◌, map, refl, ap, ◌∙◌, subst}
 use Rattle.std.specs.List.{AllZip, range_with_len}
 use Rattle.std.specs.Prelude.{All}
 use Rattle.std.proofs.lemmas.List.Elements.{All-weaker}
@@ -71,7 +71,7 @@ all_ended lock clients workers lines d started working done after whole met last
       done = done;
       came = came.came;
       own = last;
-      are = is ∙ (ap (λ (l : List (Token FullEntry)). l ++ last ∷ []) came.are ∙ append_assoc done came.came (last ∷ []));
+      are = is ∙ ap (λ (l : List (Token FullEntry)). l ++ last ∷ []) came.are;
       clients_done = zip_from_map (fresh lock clients) (GivesDone lines) (ClientDone lock clients lines) (client_done lock clients lines) (range_with_len 0 clients) done
           (subst (λ (ps : List (Token FullEntry)). AllZip (GivesDone lines) ps done) are.to_clients gave);
       workers_came = zip_from_map (fresh lock clients) MadeWork (WorkerCame lock clients) (worker_came lock clients) (range_with_len clients workers) came.came

@@ -32,12 +32,19 @@ pub(crate) fn join_clients<R: Threads>(
     for client in clients {
         let (mut pass, did) = client.join(rt);
         desk.meet(own, &mut pass);
-        done = done && did;
+        let all = both(done, did);
+        done = all;
         let Ok(()) = passes.push(pass) else {
             unreachable!()
         };
     }
     (passes, done)
+}
+
+fn both(one: bool, other: bool) -> bool
+    ensures { result ≡ true → (one ≡ true) × (other ≡ true) }
+{
+    one && other
 }
 
 /// Waits for the end of each worker.
