@@ -98,6 +98,9 @@ work_is_own c b event.Close is = absurd (cc)
 abbrev pub OwnOf : ℕ → FullEntry → Type 0
 OwnOf c e = IsOwnEvent c (e.entry.pass == c) e.entry.event
 
+pub works_own : (c pass : ℕ) (es : List FullEntry) → All (IsWorkOf pass) es → All (OwnOf c) es
+works_own c pass es works = All-weaker (IsWorkOf pass) (OwnOf c) (λ e w. work_is_own c (e.entry.pass == c) e.entry.event w.kind) es works
+
 one_own : (c : ℕ) (es : List FullEntry) (e : FullEntry) → es ≡ e ∷ [] → OwnOf c e → All (OwnOf c) es
 one_own c es e is own = All-same (OwnOf c) es (e ∷ []) is (All-cons (OwnOf c) e [] own (All-nil (OwnOf c)))
 
@@ -105,7 +108,7 @@ line_own : (c : ℕ) (l : ScriptLine) (es : List FullEntry) → DoesLine l es �
 line_own c (submits client bytes) es h = one_own c es h.one h.are (subst (OwnOf c) (sym h.of_line.entry) refl)
 line_own c (asks client fact) es h = one_own c es h.one h.are (subst (IsOwnEvent c (h.one.entry.pass == c)) (sym h.of_line.event) tt)
 line_own c (asks_status client number) es h = one_own c es h.one h.are (subst (IsOwnEvent c (h.one.entry.pass == c)) (sym h.of_line.event) tt)
-line_own c (settles client) es h = All-weaker (IsWorkOf client) (OwnOf c) (λ e w. work_is_own c (e.entry.pass == c) e.entry.event w.kind) es h.works
+line_own c (settles client) es h = works_own c client es h.works
 
 pub lines_own : (c : ℕ) (ls : List ScriptLine) (es : List FullEntry) → DoesLines ls es → All (OwnOf c) es
 lines_own c [] es done = All-same (OwnOf c) es [] done (All-nil (OwnOf c))
@@ -155,14 +158,14 @@ are_notes (settles client ∷ ls) es (front, rest, is, this, those) =
 
 -- ---- the replies
 
-pub by_itself : (c : ℕ) (ls : List ScriptLine) (es end journal : List FullEntry) (k : FullEntry) → journal ≡ es ++ k ∷ end → is_close k.entry.event ≡ true
-    → IsIsolated (map answered_of journal) → DoesLines ls es → entries_under c journal ≡ entries_under c es → RepliesByItself (client_lines c ls) (entries_under c journal)
-by_itself c ls es end journal k is closes isolated done same =
-    let own = lines_own c ls es done in
+-- where the client's entries before the close, among whatever others, are those of these lines
+pub replies_by_itself : (c : ℕ) (ls : List ScriptLine) (es end journal : List FullEntry) (k : FullEntry) → journal ≡ es ++ k ∷ end → is_close k.entry.event ≡ true
+    → IsIsolated (map answered_of journal) → All (OwnOf c) es → DoesLines ls (entries_under c es) → entries_under c journal ≡ entries_under c es → RepliesByItself ls (entries_under c journal)
+replies_by_itself c ls es end journal k is closes isolated own done same =
     let split = ap (map answered_of) is in
     record {
       notes = handed_notes (entries_under c es);
-      of_lines = are_notes (client_lines c ls) (entries_under c es) (each_client c ls es done);
+      of_lines = are_notes ls (entries_under c es) done;
       replies =
           ap handed_replies same
           ∙ (sym (replies_before c k end closes es own)
@@ -170,3 +173,8 @@ by_itself c ls es end journal k is closes isolated done same =
           ∙ (isolated c
           ∙ ap own_verdict (ap (offers_of c) split ∙ notes_before c k end closes es own))));
     }
+
+pub by_itself : (c : ℕ) (ls : List ScriptLine) (es end journal : List FullEntry) (k : FullEntry) → journal ≡ es ++ k ∷ end → is_close k.entry.event ≡ true
+    → IsIsolated (map answered_of journal) → DoesLines ls es → entries_under c journal ≡ entries_under c es → RepliesByItself (client_lines c ls) (entries_under c journal)
+by_itself c ls es end journal k is closes isolated done same =
+    replies_by_itself c (client_lines c ls) es end journal k is closes isolated (lines_own c ls es done) (each_client c ls es done) same

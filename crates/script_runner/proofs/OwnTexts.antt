@@ -31,7 +31,7 @@ entries_are : (es : List Entry) (pies : List PieRecord) → entries_in (full_ent
 entries_are [] pies = refl
 entries_are (e ∷ es) pies = ap (λ (xs : List Entry). e ∷ xs) (entries_are es (pies_left (is_admitted e.reply) pies))
 
-abbrev noted : ℕ → List FullEntry → List OfferNote
+abbrev pub noted : ℕ → List FullEntry → List OfferNote
 noted c es = client_notes c (entries_in es)
 
 onto : (o : Option OfferNote) (xs ys all : List OfferNote) → all ≡ xs ++ ys → cons_option o all ≡ cons_option o xs ++ ys
@@ -52,7 +52,7 @@ work_offers_none c (event.Ask client fact) is = absurd (cc)
 work_offers_none c (event.Status client number) is = absurd (cc)
 work_offers_none c event.Close is = absurd (cc)
 
-abbrev OffersNone : ℕ → FullEntry → Type 0
+abbrev pub OffersNone : ℕ → FullEntry → Type 0
 OffersNone c e = offered_by c e.entry.event ≡ None
 
 works_offer_none : (c pass : ℕ) (es : List FullEntry) → All (IsWorkOf pass) es → All (OffersNone c) es
@@ -87,7 +87,7 @@ one_then : {X : Type 0} (o : Option X) (xs : List X) → cons_option o [] ++ xs 
 one_then None xs = refl
 one_then (Some x) xs = refl
 
-files_noted : (c : ℕ) (ls : List ScriptLine) (es : List FullEntry) → DoesLines ls es → AllZip IsNoteOfFile (handed_files c ls) (noted c es)
+pub files_noted : (c : ℕ) (ls : List ScriptLine) (es : List FullEntry) → DoesLines ls es → AllZip IsNoteOfFile (handed_files c ls) (noted c es)
 files_noted c [] es done = subst (AllZip IsNoteOfFile []) (sym (ap (noted c) done)) tt
 files_noted c (submits client bytes ∷ ls) es (front, rest, is, this, those) =
     let h = this.of_line in
@@ -135,14 +135,20 @@ none_in c [] all = All-nil (λ (e : Entry). offered_by c e.event ≡ None)
 none_in c (e ∷ es) all =
     All-cons (λ (x : Entry). offered_by c x.event ≡ None) e.entry (entries_in es) (All-head (OffersNone c) e es all) (none_in c es (All-tail (OffersNone c) e es all))
 
+-- where what the client offers before the close is what these lines hand in, and it offers nothing behind
+pub texts_by_itself : (c : ℕ) (ls : List ScriptLine) (es end : List FullEntry) (d : DeskRecord) (k : FullEntry) → journal_of d ≡ es ++ k ∷ end → k.entry.event ≡ event.Close
+    → IsGoodDesk d → All (OwnOf c) es → All (OffersNone c) end → AllZip IsNoteOfFile (handed_files c ls) (noted c es) → AreOwnLines c ls (submit_lines c d.entries)
+texts_by_itself c ls es end d k is closing good own behind files =
+    let entries : d.entries ≡ entries_in (es ++ k ∷ end) = sym (entries_are d.entries (pies_of d.jobs)) ∙ ap entries_in is in
+    let quiet : All (OffersNone c) (k ∷ end) = All-cons (OffersNone c) k end (ap (offered_by c) closing) behind in
+    let late : OffersInTime c d.entries =
+    All-same (λ (e : Entry). offered_by c e.event ≡ None) (from_close d.entries) (entries_in (k ∷ end))
+    (ap from_close entries ∙ from_the_close c es end k (ap is_close closing) own) (none_in c (k ∷ end) quiet) in
+    let notes : client_notes c d.entries ≡ noted c es =
+    ap (client_notes c) entries ∙ noted_split c (es ++ k ∷ end) es (k ∷ end) (noted c es) refl refl ∙ ap (λ (ns : List OfferNote). noted c es ++ ns) (none_noted c (k ∷ end) quiet) ∙ append-nil (noted c es) in
+    scripts_have_own_lines d good c ls late (subst (AllZip IsNoteOfFile (handed_files c ls)) (sym notes) files)
+
 pub own_texts : (c pass : ℕ) (ls : List ScriptLine) (es end : List FullEntry) (d : DeskRecord) (k : FullEntry) → journal_of d ≡ es ++ k ∷ end → k.entry.event ≡ event.Close
     → IsGoodDesk d → DoesLines ls es → All (IsWorkOf pass) end → AreOwnLines c ls (submit_lines c d.entries)
 own_texts c pass ls es end d k is closing good done works =
-    let entries : d.entries ≡ entries_in (es ++ k ∷ end) = sym (entries_are d.entries (pies_of d.jobs)) ∙ ap entries_in is in
-    let quiet : All (OffersNone c) (k ∷ end) = All-cons (OffersNone c) k end (ap (offered_by c) closing) (works_offer_none c pass end works) in
-    let late : OffersInTime c d.entries =
-    All-same (λ (e : Entry). offered_by c e.event ≡ None) (from_close d.entries) (entries_in (k ∷ end))
-    (ap from_close entries ∙ from_the_close c es end k (ap is_close closing) (lines_own c ls es done)) (none_in c (k ∷ end) quiet) in
-    let notes : client_notes c d.entries ≡ noted c es =
-    ap (client_notes c) entries ∙ noted_split c (es ++ k ∷ end) es (k ∷ end) (noted c es) refl refl ∙ ap (λ (ns : List OfferNote). noted c es ++ ns) (none_noted c (k ∷ end) quiet) ∙ append-nil (noted c es) in
-    scripts_have_own_lines d good c ls late (subst (AllZip IsNoteOfFile (handed_files c ls)) (sym notes) (files_noted c ls es done))
+    texts_by_itself c ls es end d k is closing good (lines_own c ls es done) (works_offer_none c pass end works) (files_noted c ls es done)

@@ -10,7 +10,7 @@ use Rattle.script_runner.specs.Lines.{DoesLines, IsEntryOf, client_lines, entrie
 use Rattle.script_runner.specs.Serving.{ServesLines}
 use Rattle.script_runner.proofs.LineEntries.{IsNoRequest, IsUnder, each_client, exactly_requests, line_under, no_requests, under_other}
 
-abbrev IsRequestBelow : ℕ → FullEntry → Type 0
+abbrev pub IsRequestBelow : ℕ → FullEntry → Type 0
 IsRequestBelow clients e = is_request e.entry.event ≡ true → e.entry.pass < clients
 
 requests_below : (clients : ℕ) (ls : List ScriptLine) (es : List FullEntry) → All (λ l. line_client l < clients) ls → DoesLines ls es → All (IsRequestBelow clients) es

@@ -1,0 +1,13 @@
+pub mod LineTurns
+pub mod Lists
+pub mod Dealing
+pub mod Closes
+pub mod Threads
+pub mod Ending
+pub mod FreeDesks
+pub mod PassLists
+pub mod ClosedDesks
+pub mod ClosedJournals
+pub mod EndedPasses
+pub mod EndedJournals
+pub mod ServedDesks
