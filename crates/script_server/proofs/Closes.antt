@@ -1,5 +1,5 @@
 -- The caller's pass closes: its turns without an answer, and the one with it.
-use Rattle.std.proofs.Common.{◌≡◌, ℕ, List, [], ◌∷◌, ◌++◌, refl, sym, ap, ◌∙◌, subst, append_assoc, append-nil}
+use Rattle.std.proofs.Common.{◌≡◌, ℕ, List, ◌++◌, refl, sym, ap, ◌∙◌, subst, append_assoc}
 use Rattle.std.specs.Prelude.{Result, Ok, Err}
 use Rattle.std.specs.declared.alloc.AllocError.{AllocError}
 use Rattle.desk_core.specs.DeskRecords.{plain_of}
@@ -14,18 +14,16 @@ use Rattle.desk_core.specs.declared.reply.Reply.TheVariants as reply
 use Rattle.cairo_model.specs.Pie.Records.{PieRecord}
 use Rattle.script_server.specs.Working.Closing.{PassCloses, SeesOn}
 use Rattle.script_server.specs.Working.PassLines.{IsSamePass}
-use Rattle.session_desk.specs.PassTurns.{EventTurn, PassTurn}
+use Rattle.session_desk.specs.PassTurns.{EventTurn}
 use Rattle.session_desk.specs.Sessions.{passed_journal}
 use Rattle.turn_lock.specs.Journals.{IsPrefix}
 use Rattle.turn_lock.specs.Passes.{Token}
+use Rattle.turn_lock.proofs.Logs.{prefix_itself}
 
 -- ---- beginnings
 
 pub prefix_then : (xs ys zs : List (ℕ × FullEntry)) → IsPrefix xs ys → IsPrefix ys zs → IsPrefix xs zs
 prefix_then xs ys zs p q = (p.0 ++ q.0, q.1 ∙ (ap (λ (l : List (ℕ × FullEntry)). l ++ q.0) p.1 ∙ append_assoc xs p.0 q.0))
-
-pub prefix_itself : (xs : List (ℕ × FullEntry)) → IsPrefix xs xs
-prefix_itself xs = ([], sym (append-nil xs))
 
 -- ---- the same pass
 
@@ -60,8 +58,8 @@ closing_reply : (d : PlainDesk) (pass : ℕ) → reply_to d pass event.Close ≡
 unfolding reply_to
 closing_reply d pass = refl
 
-pub closed : (old mid new : Token FullEntry) (r : Reply) → SeesOn old mid → EventTurn event.Close no_pie mid new (Ok r) → PassCloses old new
-closed old mid new r s t = record {
+pub answered : (old mid new : Token FullEntry) (r : Reply) → SeesOn old mid → EventTurn event.Close no_pie mid new (Ok r) → PassCloses old new
+answered old mid new r s t = record {
   before = mid;
   waited = s;
   closing = subst (λ (x : Reply). EventTurn event.Close no_pie mid new (Ok x)) (t.done.replies ∙ closing_reply (plain_of t.before) mid.number) t;

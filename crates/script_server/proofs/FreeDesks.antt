@@ -3,7 +3,7 @@ use Rattle.std.proofs.Common.{◌≢◌, ℕ, zero, suc, List, [], ◌∷◌, ma
 use Rattle.std.specs.Option.{option_map_or}
 use Rattle.std.specs.Prelude.{All, slice_get}
 use Rattle.std.proofs.lemmas.List.Elements.{All-head, All-tail}
-use Rattle.batch_workers.specs.Works.{IsIdle, WorksAlone}
+use Rattle.batch_workers.specs.Works.{WorksAlone}
 use Rattle.desk_core.specs.DeskRecords.{DeskRecord, plain_batch, plain_of}
 use Rattle.desk_core.specs.Desks.{PlainBatch, PlainDesk}
 use Rattle.desk_core.specs.declared.batch.Batch.{Batch}
@@ -18,10 +18,6 @@ free_at (x ∷ bs) all (suc b) pass is = free_at bs (All-tail IsFreeBatch x bs a
 
 pub none_taken : (d : DeskRecord) → All IsFreeBatch d.batches → NoneTaken (plain_of d)
 none_taken d all = free_at d.batches all
-
--- so any pass may work there, and works alone
-pub idle_where_free : (pass : ℕ) (d : PlainDesk) → NoneTaken d → IsIdle pass d
-idle_where_free pass d free = λ b. free b pass
 
 pub alone_where_free : (pass : ℕ) (d : PlainDesk) → NoneTaken d → WorksAlone pass d
 alone_where_free pass d free = λ b by is. absurd (free b by is)

@@ -1,28 +1,21 @@
 -- A client's lines at a shared desk, each by the turns of its pass.
-use Rattle.std.proofs.Common.{◌≡◌, ℕ, ◌==◌, Bool, true, false, cond, List, [], ◌∷◌, ◌++◌, map, refl, sym, ap, ◌∙◌, subst}
-use Rattle.std.specs.Prelude.{Result, Ok, Err}
-use Rattle.std.specs.declared.alloc.AllocError.{AllocError}
-use Rattle.std.proofs.lemmas.Bool.{eq-eqb}
+use Rattle.std.proofs.Common.{◌≡◌, ℕ, ◌==◌, List, [], ◌∷◌, ◌++◌, map, refl, sym, ap, ◌∙◌, subst}
 use Rattle.std.proofs.lemmas.List.{append-nil, append_assoc, map-append}
 use Rattle.std.proofs.lemmas.List.Elements.{filter-append}
 use Rattle.cairo_model.specs.Pie.Acceptance.{FactRecord}
-use Rattle.cairo_model.specs.Pie.Records.{PieRecord}
 use Rattle.desk_core.specs.Journals.{no_pie}
 use Rattle.desk_core.specs.Turns.{entry_of, offer_note, pie_of}
 use Rattle.desk_core.specs.declared.entry.FullEntry.{FullEntry}
-use Rattle.desk_core.specs.declared.event.Event.{Event}
 use Rattle.desk_core.specs.declared.event.Event.TheVariants as event
 use Rattle.desk_core.specs.declared.offer.Offer.{Offer}
 use Rattle.desk_core.specs.declared.reply.Reply.{Reply}
-use Rattle.desk_script.specs.Lines.{ScriptLine, asks, asks_status, settles, submits}
-use Rattle.script_runner.specs.Lines.{DoesLine, DoesLines, Settles, client_lines, line_client}
-use Rattle.script_server.specs.Working.PassLines.{IsSamePass, PassDoesLine, PassDoesLines}
+use Rattle.desk_script.specs.Lines.{ScriptLine, asks, asks_status, submits}
+use Rattle.script_runner.specs.Lines.{DoesLines, client_lines, line_client}
+use Rattle.script_server.specs.Working.PassLines.{PassDoesLine, PassDoesLines}
 use Rattle.session_desk.specs.Offers.{OffersBytes}
 use Rattle.session_desk.specs.SeenDesks.{IsIdlePass}
 use Rattle.session_desk.specs.Sessions.{HasOneMore, with_pass}
 use Rattle.turn_lock.specs.Passes.{Token}
-use Rattle.batch_workers.specs.SharedWorks.{PassWorks}
-use Rattle.batch_workers.specs.Works.{EndIdle}
 use Rattle.batch_workers.proofs.PassEvents.{hand_step}
 
 -- ---- a line
@@ -56,21 +49,10 @@ did_status client number old new r own one idle = record {
   idle = λ k. hand_step old new (event.Status client number) no_pie r one k ∙ idle k;
 }
 
-pub did_settle : (client : ℕ) (old new : Token FullEntry) → client ≡ old.number → PassWorks (EndIdle old.number) old new → IsIdlePass new → PassDoesLine (settles client) old new
-did_settle client old new own x idle = record {
-  more = x.more;
-  mine = x.mine;
-  does = subst (λ (n : ℕ). Settles n x.more) (sym own) (record { works = x.works; ends = x.ends });
-  idle = idle;
-}
-
 -- ---- lines one after another
 
 pub no_lines : (p : Token FullEntry) → IsIdlePass p → PassDoesLines [] p p
 no_lines p idle = record { more = []; mine = sym (append-nil p.mine); does = refl; idle = idle }
-
-pub one_line : (line : ScriptLine) (old new : Token FullEntry) → PassDoesLine line old new → PassDoesLines (line ∷ []) old new
-one_line line old new d = record { more = d.more; mine = d.mine; does = (d.more, [], sym (append-nil d.more), d.does, refl); idle = d.idle }
 
 more_lines : (ls ks : List ScriptLine) (xs ys : List FullEntry) → DoesLines ls xs → DoesLines ks ys → DoesLines (ls ++ ks) (xs ++ ys)
 more_lines [] ks xs ys d e = subst (λ (es : List FullEntry). DoesLines ks (es ++ ys)) (sym d) e
@@ -86,17 +68,7 @@ lines_then ls ks a b c x y = record {
   idle = y.idle;
 }
 
--- ---- those of the pass alone
-
-pub own_line : (n : ℕ) (line : ScriptLine) → line_client line ≡ n → client_lines n (line ∷ []) ≡ line ∷ []
-own_line n line own = by_test (line_client line == n) (eq-eqb (line_client line) n own)
-  where
-    by_test : (b : Bool) → b ≡ true → cond b (line ∷ []) [] ≡ line ∷ []
-    by_test true is = refl
-    by_test false is = absurd (cc)
-
-pub other_line : (n : ℕ) (line : ScriptLine) → (line_client line == n) ≡ false → client_lines n (line ∷ []) ≡ []
-other_line n line other = ap (λ (b : Bool). cond b (line ∷ []) []) other
+-- ---- those of one client alone
 
 pub next_line : (n : ℕ) (ls : List ScriptLine) (line : ScriptLine) (a b c : Token FullEntry) → PassDoesLines (client_lines n ls) a b → PassDoesLines (client_lines n (line ∷ [])) b c → PassDoesLines (client_lines n (ls ++ line ∷ [])) a c
 next_line n ls line a b c x y = subst (λ (ks : List ScriptLine). PassDoesLines ks a c) (sym (filter-append (λ l. line_client l == n) ls (line ∷ []))) (lines_then (client_lines n ls) (client_lines n (line ∷ [])) a b c x y)

@@ -6,13 +6,12 @@ mod clients;
 mod closing;
 mod held;
 mod joining;
+pub mod limits;
 mod lines;
 mod passes;
 mod serving;
 mod sharing;
 mod starting;
 mod workers;
-
-pub mod limits;
 
 pub use serving::serve_script;

@@ -37,9 +37,35 @@ fn run_all<'s, 'e: 's, R: Threads + Wait + Sync, M: Maker + Sync, G: Gate>(
     requires honest { M.honest maker.now }
     ensures { (clients workers : ℕ) → AreDealt desk.now.lock clients workers dealt → IfSome result (λ v. AllEnded desk.now.lock clients workers (map line_view script.now.lines.items) v.items) }
 {
-    let Dealt { clients, workers, mut own } = dealt;
-    let clients = begin_clients(rt, alloc, scope, desk, clients, maker, gate, bell, script, room.clients);
-    let workers = begin_workers(rt, alloc, scope, desk, workers, maker, gate, bell, aside, room.workers);
+    let Dealt {
+        clients,
+        workers,
+        mut own,
+    } = dealt;
+    let clients = begin_clients(
+        rt,
+        alloc,
+        scope,
+        desk,
+        clients,
+        maker,
+        gate,
+        bell,
+        script,
+        room.clients,
+    );
+    let workers = begin_workers(
+        rt,
+        alloc,
+        scope,
+        desk,
+        workers,
+        maker,
+        gate,
+        bell,
+        aside,
+        room.workers,
+    );
     let (ended, done) = join_clients(rt, desk, &mut own, clients, room.ended);
     close_desk(rt, desk, &mut own);
     bell.ring(rt);
@@ -77,7 +103,9 @@ pub(crate) fn in_threads<R: Threads + Wait + Sync, M: Maker + Sync, G: Gate>(
             requires { CanAllStart desk.now.lock dealt × HasRoomFor (vec_len dealt.clients) (vec_len dealt.workers) room × M.honest maker.now }
             ensures { (clients workers : ℕ) → AreDealt desk.entry.now.lock clients workers dealt → IfSome result (λ v. AllEnded desk.entry.now.lock clients workers (map line_view script.entry.now.lines.items) v.items) }
         {
-            run_all(rt, alloc, scope, desk, dealt, maker, gate, ringing, standing, script, room)
+            run_all(
+                rt, alloc, scope, desk, dealt, maker, gate, ringing, standing, script, room,
+            )
         },
     );
     ended.ok_or(AllocError)

@@ -1,5 +1,5 @@
 -- The passes of a new desk: the clients' first, then the workers', then the caller's own.
-use Rattle.std.specs.Prelude.{◌≡◌, ◌≤◌, ◌<◌, ◌+◌, ℕ, List, [], All, map, vec_capacity}
+use Rattle.std.specs.Prelude.{◌≡◌, ◌≤◌, ◌<◌, ◌+◌, ℕ, [], All, map, vec_capacity}
 use Rattle.std.specs.List.{range_with_len}
 use Rattle.atomic_table.specs.Seated.{TableId}
 use Rattle.desk_core.specs.declared.entry.FullEntry.{FullEntry}

@@ -25,5 +25,5 @@ loop-line-preserved g c =
     subst (λ (k : ℕ). PassDoesLines (client_lines k (line_view l ∷ [])) c.loop-line.pass c.do_if_own.new.pass) was.0.number c.in_ok-do_if_own.ensures.did in (
       same_then c.args.pass.now c.loop-line.pass c.do_if_own.new.pass was.0 c.in_ok-do_if_own.ensures.same,
       subst (λ (ls : List ScriptLine). PassDoesLines (client_lines n ls) c.args.pass.now c.do_if_own.new.pass) (sym more)
-      (next_line n (map line_view (take i lines)) (line_view l) c.args.pass.now c.loop-line.pass c.do_if_own.new.pass was.1 did),
+          (next_line n (map line_view (take i lines)) (line_view l) c.args.pass.now c.loop-line.pass c.do_if_own.new.pass was.1 did),
     )

@@ -1,4 +1,4 @@
-use Rattle.std.proofs.Common.{◌≡◌, map, take}
+use Rattle.std.proofs.Common.{map, take}
 use Rattle.desk_script.specs.Views.{line_view}
 use Rattle.script_runner.specs.Lines.{client_lines}
 use Rattle.script_server.specs.Working.PassLines.{IsSamePass, PassDoesLines}

@@ -3,7 +3,6 @@ use Rattle.std.proofs.lemmas.List.FromFn.{length-map-range_with_len}
 use Rattle.desk_core.specs.DeskRecords.{plain_of}
 use Rattle.desk_core.specs.declared.entry.FullEntry.{FullEntry}
 use Rattle.desk_script.specs.Views.{line_view}
-use Rattle.script_server.specs.Working.Dealing.{AreDealt}
 use Rattle.turn_lock.specs.Passes.{Token, fresh}
 use Rattle.script_server.proofs.Dealing.{are_dealt, can_all_start, worker_count}
 use Rattle.script_server.proofs.FreeDesks.{alone_where_free}

@@ -1,4 +1,4 @@
-use Rattle.std.proofs.Common.{◌≡◌, map}
+use Rattle.std.proofs.Common.{map}
 use Rattle.desk_script.specs.Views.{line_view}
 use Rattle.script_server.specs.Working.Dealing.{IsClientPass}
 use Rattle.script_server.specs.Working.Threads.{IsClient, IsClientAt}
