@@ -1,5 +1,5 @@
 -- Which top call the words are for.
-use Rattle.std.specs.Prelude.{◌≡◌, ℕ, List, Option, Some, option_map, slice_get, String, string_bytes}
+use Rattle.std.specs.Prelude.{◌≡◌, ℕ, List, Some, option_map, slice_get, String, string_bytes}
 use Rattle.std.specs.declared.alloc.Global.{Global}
 
 -- their first word is this one
