@@ -27,7 +27,7 @@ BATCH = (
     b"3852709440 3500719293 5\n"
 )
 ADMITTED = b"admitted program 644b2c86fee53a4ad40c21efa0e8524e34c75966cf12fcbfe5a3ae40d0a8bcbd outputs 5\n"
-USAGE = b"shared_prover: usage: shared_prover replay | place | list | check | run | boot | make N | batch --clients C | export --clients C --batch B | trial N\n"
+USAGE = b"shared_prover: usage: shared_prover replay | place | list | check | run | boot | make N | batch --clients C | export --clients C --batch B | trial N | serve --clients C --workers W\n"
 UNREADABLE = b"shared_prover: the input could not be read\n"
 
 failures = []
@@ -143,10 +143,15 @@ def try_scripts():
     three = example("three.script")
     status, certificate, _ = run(["export", "--clients", "1", "--batch", "0"], input=three)
     expect("export of a batch", (status, run(["check"], input=certificate or b"")), (0, (0, BATCH, b"")))
+    status, certificate, _ = run(["export", "--batch=0", "--clients=1"], input=three)
+    expect("export with its options the other way", (status, run(["check"], input=certificate or b"")), (0, (0, BATCH, b"")))
+    expect("serve of no lines", run(["serve", "--workers=2", "--clients", "3"]), (0, b"end\n", b""))
+    expect("serve of a bad line", run(["serve", "--clients", "1", "--workers", "1"], input=b"settle 1\n"), (3, b"script 1 4\n", b""))
     expect("export of a batch too many", run(["export", "--clients", "1", "--batch", "1"], input=three), (1, b"refused batch 1 1\n", b""))
     expect("trial of 4", run(["trial", "4"]), (0, b"jobs 4\nbatches 1\nfacts 4\nsteps 4312\n", b""))
     expect("trial of 40", run(["trial", "40"]), (0, b"jobs 40\nbatches 3\nfacts 40\nsteps 39840\n", b""))
-    for words in (["batch"], ["batch", "--clients", "0"], ["batch", "--clients", "17"], ["batch", "--clients=1"], ["export", "--clients", "1"], ["export", "--batch", "0", "--clients", "1"], ["trial", "0"]):
+    for words in (["batch"], ["batch", "--clients", "0"], ["batch", "--clients", "17"], ["batch", "--clients", "1", "--clients", "1"], ["batch", "--help"], ["export", "--clients", "1"], ["trial", "0"],
+                  ["serve", "--clients", "3"], ["serve", "--clients", "3", "--workers", "0"], ["serve", "--clients", "3", "--workers", "9"], ["serve", "--clients", "3", "--workers", "2", "more"]):
         expect(f"the words {words}", run(words, input=three), (2, b"", USAGE))
 
 

@@ -1,8 +1,10 @@
 // The program: its streams, its words and its exit status.
 #![tactic(auto)]
 
+use batch_workers::OpenGate;
 use shared_prover_cli::{
-    Ended, Status, StdSink, StdSource, exit_code, explanation, run_plain, words_of,
+    Ended, Pick, Status, StdSink, StdSource, exit_code, explanation, pick, run_plain, run_serve,
+    words_of,
 };
 use std::env;
 use std::io::ErrorKind;
@@ -14,13 +16,13 @@ fn main(rt: HostRuntime) -> ExitCode {
         Ok(args) => {
             let mut source = StdSource::new(rt.stdin());
             let mut sink = StdSink::new(rt.stdout());
-            run_plain(
-                &rt,
-                rt.alloc(),
-                words_of(args.as_slice()),
-                &mut source,
-                &mut sink,
-            )
+            let words = words_of(args.as_slice());
+            match pick(words) {
+                Pick::Plain => run_plain(&rt, rt.alloc(), words, &mut source, &mut sink),
+                Pick::Serve => {
+                    run_serve(&rt, rt.alloc(), words, &mut source, &mut sink, &OpenGate)
+                }
+            }
         }
         Err(status) => Ended { status, desk: None },
     };

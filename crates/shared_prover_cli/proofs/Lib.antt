@@ -1,5 +1,5 @@
 mod CodeCells
-mod CommandLemmas
+mod Endings
 mod KeptBytes
 mod OneAnswer
 mod OneOutcome
@@ -7,7 +7,6 @@ mod RunLemmas
 mod ScriptLemmas
 mod ScriptRun
 mod ToldLemmas
-mod WordLemmas
 pub mod CheckLemmas
 pub mod TakenSoFar
 pub mod VerdictStatus

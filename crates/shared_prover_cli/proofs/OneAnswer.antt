@@ -28,8 +28,8 @@ use Rattle.desk_core.specs.DeskRecords.{DeskRecord}
 use Rattle.shared_prover_cli.specs.Commands.{AnswerOf, RunsNoScript}
 use Rattle.shared_prover_cli.specs.Replies.{ReplyRecord}
 use Rattle.shared_prover_cli.specs.Texts.{verdict_status, verdict_text}
-use Rattle.shared_prover_cli.specs.declared.command.Command.{Command}
-use Rattle.shared_prover_cli.specs.declared.command.Command.TheVariants as commands
+use Rattle.command_words.specs.declared.command.Command.{Command}
+use Rattle.command_words.specs.declared.command.Command.TheVariants as commands
 
 one_list : (cells : List FieldCell) (span : SpanRecord) (xs ys : List ℕ) → SpanHolds cells span xs → SpanHolds cells span ys → xs ≡ ys
 one_list cells span xs ys p q =
@@ -128,6 +128,7 @@ module _ (one_verdict : OneVerdict) (one_placement : OnePlacement) (one_certific
   one_answer (commands.Batch clients) input reply other desk others none p q = absurd none
   one_answer (commands.Export clients batch) input reply other desk others none p q = absurd none
   one_answer (commands.Trial jobs) input reply other desk others none p q = absurd none
+  one_answer (commands.Serve clients workers) input reply other desk others none p q = absurd none
 
 -- ---- scripts
 
@@ -157,3 +158,4 @@ no_script (commands.Make jobs) input reply desk none p = λ e. omega (arith, p.0
 no_script (commands.Batch clients) input reply desk none p = absurd none
 no_script (commands.Export clients batch) input reply desk none p = absurd none
 no_script (commands.Trial jobs) input reply desk none p = absurd none
+no_script (commands.Serve clients workers) input reply desk none p = absurd none

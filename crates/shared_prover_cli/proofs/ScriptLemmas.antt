@@ -27,7 +27,7 @@ use Rattle.script_runner.specs.Lines.{line_client}
 use Rattle.script_runner.specs.Runs.{RunsScript}
 use Rattle.work_maker.specs.Generator.{script_of}
 use Rattle.work_maker.specs.Limits.{most_jobs, script_clients}
-use Rattle.shared_prover_cli.specs.Answers.Scripts.{RanScript, TellsBadLine, TellsBatch, few_batches_text}
+use Rattle.shared_prover_cli.specs.Answers.Scripts.{DidScript, TellsBadLine, TellsBatch, few_batches_text}
 use Rattle.shared_prover_cli.specs.Replies.{ReplyRecord}
 use Rattle.shared_prover_cli.specs.Working.Scripting.{AllCertified, IsCertified, IsFileOfBatch, NamesBadLine}
 
@@ -103,8 +103,8 @@ all_certified d good all =
     keep_certs d.jobs d.batches good.certs
     (batches_registered (plain_of d).jobs (plain_of d).batches 0 good.sound.neighbours good.sound.batches (λ i le lt. all i lt))
 
-pub ran_certified : (clients : ℕ) (bytes : List ℕ) (d : DeskRecord) → RanScript clients bytes d → AllCertified d.batches
-ran_certified clients bytes d r = all_certified d r.good r.runs.serves.registered
+pub ran_certified : (clients : ℕ) (bytes : List ℕ) (d : DeskRecord) → DidScript RunsScript clients bytes d → AllCertified d.batches
+ran_certified clients bytes d r = all_certified d r.good r.does.serves.registered
 
 -- ---- what is told
 
@@ -114,8 +114,8 @@ tells_bad_line clients bytes refusal reply first names = record { refusal = refu
 pub lines_below_clients : (lines : List Line) (clients : ℕ) (bytes : List ℕ) → IsScript clients bytes (map line_view lines) → All (λ (l : Line). line_client (line_view l) < clients) lines
 lines_below_clients lines clients bytes h = script_clients_below line_view lines clients bytes h
 
-pub ran_script : (clients : ℕ) (bytes : List ℕ) (lines : List ScriptLine) (d : DeskRecord) → IsScript clients bytes lines → RunsScript clients lines d → IsGoodDesk d → RanScript clients bytes d
-ran_script clients bytes lines d script runs good = record { lines = lines; is_script = script; runs = runs; good = good }
+pub did_script : (Does : ℕ → List ScriptLine → DeskRecord → Type 0) (clients : ℕ) (bytes : List ℕ) (lines : List ScriptLine) (d : DeskRecord) → IsScript clients bytes lines → Does clients lines d → IsGoodDesk d → DidScript Does clients bytes d
+did_script Does clients bytes lines d script does good = record { lines = lines; is_script = script; does = does; good = good }
 
 at_index : (bs : List Batch) (b : ℕ) (batch : Batch) → b < length bs → batch ≡ slice_index_or bs b batch → slice_get bs b ≡ Some batch
 at_index [] b batch lt is = absurd (omega (arith, lt))

@@ -4,7 +4,7 @@ use Rattle.shared_prover_cli.specs.Commands.{AnswerOf, reads_input}
 use Rattle.shared_prover_cli.specs.Runs.{HasInput, ReadsWithin, Stream}
 use Rattle.shared_prover_cli.specs.Working.Replies.{reply_view}
 use Rattle.shared_prover_cli.specs.Working.Replying.{ComesTo, ComesWith, told_alone}
-use Rattle.shared_prover_cli.specs.declared.command.Command.{Command}
+use Rattle.command_words.specs.declared.command.Command.{Command}
 use Rattle.shared_prover_cli.specs.declared.reply.Reply.{Reply}
 use Rattle.shared_prover_cli.specs.declared.told.Told.{Told}
 use Rattle.shared_prover_cli.specs.declared.whole.InputFault.{InputFault}

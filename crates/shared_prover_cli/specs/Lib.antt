@@ -4,7 +4,7 @@ pub mod Exits
 pub mod Faults
 pub mod Limits
 pub mod MemoryStreams
-pub mod Numbers
+pub mod Picks
 pub mod Replies
 pub mod Runs
 pub mod Texts

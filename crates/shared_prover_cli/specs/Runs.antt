@@ -1,14 +1,15 @@
 -- What a run of a top call promises, by the status that it ends with.
-use Rattle.std.specs.Prelude.{◌≡◌, ◌≤◌, ℕ, Bool, true, false, List, [], Option, None, String, length}
+use Rattle.std.specs.Prelude.{◌≡◌, ◌≤◌, ◌⊎◌, ℕ, Bool, true, false, List, [], Option, None, String, length}
 use Rattle.std.specs.Io.KnownBytes.{Appends}
 use Rattle.std.specs.declared.alloc.Global.{Global}
 use Rattle.desk_core.specs.DeskRecords.{DeskRecord}
-use Rattle.shared_prover_cli.specs.Commands.{AnswerOf, Asks, AsksForNone, reads_input}
+use Rattle.command_words.specs.Words.{Asks}
+use Rattle.command_words.specs.declared.command.Command.{Command}
+use Rattle.shared_prover_cli.specs.Commands.{AnswerOf, AsksForNone, reads_input}
 use Rattle.shared_prover_cli.specs.Faults.{Rose}
 use Rattle.shared_prover_cli.specs.Limits.{input_limit}
 use Rattle.shared_prover_cli.specs.Replies.{ReplyRecord}
 use Rattle.shared_prover_cli.specs.WholeStreams.{AppendsPart, ConsumesAll, ConsumesAtMost, ConsumesMoreThan}
-use Rattle.shared_prover_cli.specs.declared.command.Command.{Command}
 use Rattle.shared_prover_cli.specs.declared.status.Status.{Status}
 use Rattle.shared_prover_cli.specs.declared.status.Status.TheVariants as statuses
 
@@ -50,13 +51,17 @@ abbrev pub ReadFails : Bool → Stream → Type 0
 ReadFails true source = ConsumesAtMost input_limit source.before source.after × Rose source.faults_before source.faults_after
 ReadFails false source = ⊥
 
+-- nothing was read or written, and there is no desk
+pub record DoesNothing (source sink : Stream) (desk : Option DeskRecord) : Type 0 where
+  pub unread : source.IsUntouched
+  pub unwritten : sink.IsUntouched
+  pub no_desk : desk ≡ None
+
 module _ (IsOwn : Command → Type 0) (words : List (String Global)) (source sink : Stream) (desk : Option DeskRecord) where
-  -- The words ask for none of the call's own commands, nothing was read or written, and there is no desk.
+  -- The words ask for none of the call's own commands, so it does nothing.
   pub record NotAsked : Type 0 where
     pub no_command : AsksForNone IsOwn words
-    pub unread : source.IsUntouched
-    pub unwritten : sink.IsUntouched
-    pub no_desk : desk ≡ None
+    pub nothing : DoesNothing source sink desk
 
   -- They ask for one, so much was read for it, nothing was written, and there is no desk.
   pub record StopsEarly (Reads : Bool → Stream → Type 0) : Type 0 where
@@ -86,7 +91,8 @@ WritesWhole status sink reply = (reply.status ≡ status) × Appends sink.before
 abbrev pub WritesPart : Stream → ReplyRecord → Type 0
 WritesPart sink reply = AppendsPart sink.before sink.after reply.text × Rose sink.faults_before sink.faults_after
 
--- The promise of a call with these commands of its own. Want of memory alone is free.
+-- The promise of a call with these commands of its own. Want of memory alone is free: where the words were not read for it, the call
+-- does nothing.
 abbrev pub EndsWith : (Command → Type 0) → List (String Global) → Stream → Stream → Status → Option DeskRecord → Type 0
 EndsWith IsOwn words source sink statuses.Done desk = Replies IsOwn words source sink desk (WritesWhole 0 sink)
 EndsWith IsOwn words source sink statuses.Refused desk = Replies IsOwn words source sink desk (WritesWhole 1 sink)
@@ -94,5 +100,6 @@ EndsWith IsOwn words source sink statuses.Usage desk = NotAsked IsOwn words sour
 EndsWith IsOwn words source sink statuses.Script desk = Replies IsOwn words source sink desk (WritesWhole 3 sink)
 EndsWith IsOwn words source sink statuses.ReadFault desk = StopsEarly IsOwn words source sink desk ReadFails
 EndsWith IsOwn words source sink statuses.WriteFault desk = Replies IsOwn words source sink desk (WritesPart sink)
-EndsWith IsOwn words source sink statuses.OutOfMemory desk = StopsEarly IsOwn words source sink desk ReadsWithin
+EndsWith IsOwn words source sink statuses.OutOfMemory desk =
+    DoesNothing source sink desk ⊎ StopsEarly IsOwn words source sink desk ReadsWithin
 EndsWith IsOwn words source sink statuses.TooLong desk = StopsEarly IsOwn words source sink desk ReadsBeyond

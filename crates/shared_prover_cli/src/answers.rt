@@ -1,5 +1,7 @@
 ghost use Rattle.std.specs.Prelude.{◌≤◌};
 ghost use Rattle.desk_core.specs.Limits.{most_clients};
+ghost use Rattle.script_server.specs.Limits.{most_workers};
+ghost use Rattle.shared_prover_cli.specs.Commands.{IsPlainCommand};
 ghost use Rattle.shared_prover_cli.specs.Runs.{stream};
 ghost use Rattle.shared_prover_cli.specs.Working.Replying.{CanBeAsked, ComesTo, ComesWith};
 
@@ -11,6 +13,7 @@ mod place;
 mod replay;
 mod run;
 mod scripts;
+mod serve;
 
 use crate::answers::boot::boot_answer;
 use crate::answers::check::check_answer;
@@ -20,17 +23,21 @@ use crate::answers::place::place_answer;
 use crate::answers::replay::replay_answer;
 use crate::answers::run::run_answer;
 use crate::answers::scripts::{batch_answer, export_answer, trial_answer};
-use crate::command::Command;
+use crate::answers::serve::serve_answer;
 use crate::limits::INPUT_LIMIT;
 use crate::reply::Reply;
 use crate::stream::Source;
 use crate::told::{Told, without_desk};
 use crate::whole::{InputFault, read_into, read_whole};
+use batch_workers::Gate;
 use cert_format::CertReader;
+use command_words::Command;
 use std::alloc::Global;
+use std::sync::Wait;
 use std::thread::Threads;
 
-/// Reads the input of a command, if it has one, makes its reply, and hands out the desk at which it ran a script, if it did.
+/// Reads the input of a command of `run_plain`, if it has one, makes its reply, and hands out the desk at which it ran a script,
+/// if it did.
 #[tactic(auto, using(crate::proofs::ToldLemmas::told_replies))]
 pub fn reply_to<R: Threads + Sync, S: Source>(
     rt: &R,
@@ -38,7 +45,8 @@ pub fn reply_to<R: Threads + Sync, S: Source>(
     command: Command,
     source: &mut S,
 ) -> Result<Told, InputFault>
-    requires { CanBeAsked command }
+    requires asked { CanBeAsked command }
+    requires own { IsPlainCommand command }
     ensures { ComesWith command (stream S.left S.faults source.old source.new) result }
 {
     match command {
@@ -58,6 +66,7 @@ pub fn reply_to<R: Threads + Sync, S: Source>(
         Command::Batch(clients) => batch_reply(rt, alloc, source, clients),
         Command::Export(clients, batch) => export_reply(rt, alloc, source, clients, batch),
         Command::Trial(jobs) => Ok(trial_answer(rt, alloc, jobs)?),
+        Command::Serve(..) => unreachable!(),
     }
 }
 
@@ -129,4 +138,22 @@ fn export_reply<R: Threads + Sync, S: Source>(
 {
     let script = read_whole(alloc, source, INPUT_LIMIT)?;
     Ok(export_answer(rt, alloc, script.as_slice(), clients, batch)?)
+}
+
+/// Reads a script, makes the reply that serves it, and hands out the desk.
+pub fn serve_reply<R: Threads + Wait + Sync, S: Source, G: Gate>(
+    rt: &R,
+    alloc: Global,
+    source: &mut S,
+    clients: u32,
+    workers: u32,
+    gate: &G,
+) -> Result<Told, InputFault>
+    requires some { 1 ≤ clients }
+    requires few { clients ≤ most_clients }
+    requires few_workers { workers ≤ most_workers }
+    ensures { ComesWith (Command.Serve clients workers) (stream S.left S.faults source.old source.new) result }
+{
+    let script = read_whole(alloc, source, INPUT_LIMIT)?;
+    Ok(serve_answer(rt, alloc, script.as_slice(), clients, workers, gate)?)
 }

@@ -16,7 +16,7 @@ pub fn exit_code(status: Status) -> ExitCode
 pub fn explanation(status: Status) -> Option<&'static str> {
     match status {
         Status::Usage => Some(
-            "usage: shared_prover replay | place | list | check | run | boot | make N | batch --clients C | export --clients C --batch B | trial N",
+            "usage: shared_prover replay | place | list | check | run | boot | make N | batch --clients C | export --clients C --batch B | trial N | serve --clients C --workers W",
         ),
         Status::ReadFault => Some("the input could not be read"),
         Status::OutOfMemory => Some("out of memory"),

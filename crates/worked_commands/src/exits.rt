@@ -10,7 +10,7 @@ const ENDS: [(Status, u8, Option<&'static str>); 8] = [
         Status::Usage,
         2,
         Some(
-            "usage: shared_prover replay | place | list | check | run | boot | make N | batch --clients C | export --clients C --batch B | trial N",
+            "usage: shared_prover replay | place | list | check | run | boot | make N | batch --clients C | export --clients C --batch B | trial N | serve --clients C --workers W",
         ),
     ),
     (Status::Script, 3, None),

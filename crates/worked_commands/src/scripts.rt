@@ -51,7 +51,7 @@ fn three_runs_of_one_client_are_a_batch(rt: HostRuntime) -> Result<(), Fail> {
     assert_eq!(rt; (found.0, found.1.as_slice()), (0, text.as_bytes()));
     let exported = asked(
         &rt,
-        &["export", "--clients", "1", "--batch", "0"],
+        &["export", "--batch=0", "--clients", "1"],
         script.to_vec(alloc)?,
     )?;
     assert_eq!(rt; exported.0, 0);

@@ -69,6 +69,12 @@ fn other_words_are_usage(rt: HostRuntime) -> Result<(), Fail> {
         &["Replay"],
         &["replay "],
         &["replay", "replay"],
+        &["replay", "--help"],
+        &["make", "0"],
+        &["make", "257"],
+        &["export", "--clients", "1"],
+        &["batch", "--clients", "1", "--clients", "2"],
+        &["serve", "--clients", "1", "--workers", "1"],
     ] {
         let words = words_of(rt.alloc(), texts)?;
         let mut source = SureSource::new(b"hello".to_vec(rt.alloc())?);

@@ -1,4 +1,4 @@
--- `batch`, `export` and `trial`: a script is run on a desk of its own, and something of that desk is told.
+-- `batch`, `export`, `trial` and `serve`: a script is run on a desk of its own, or served by threads, and something of that desk is told.
 use Rattle.std.specs.Prelude.{◌≡◌, ℕ, List, [], ◌∷◌, ◌++◌, codes, length, Option, Some, None, slice_get}
 use Rattle.cairo_model.specs.Certificate.Records.{CertRecord}
 use Rattle.cairo_model.specs.Texts.Numbers.{numbers_text}
@@ -17,11 +17,11 @@ use Rattle.shared_prover_cli.specs.Replies.{ReplyRecord}
 
 -- ---- the run
 
--- The bytes are a script for so many clients, and the desk is one at which it was run.
-pub record RanScript (clients : ℕ) (bytes : List ℕ) (desk : DeskRecord) : Type 0 where
+-- The bytes are a script for so many clients, and the desk is one at which this was done with its lines.
+pub record DidScript (Does : ℕ → List ScriptLine → DeskRecord → Type 0) (clients : ℕ) (bytes : List ℕ) (desk : DeskRecord) : Type 0 where
   pub lines : List ScriptLine
   pub is_script : IsScript clients bytes lines
-  pub runs : RunsScript clients lines desk
+  pub does : Does clients lines desk
   pub good : IsGoodDesk desk
 
 abbrev pub bad_line_text : ScriptRefusal → List ℕ
@@ -34,14 +34,14 @@ pub record TellsBadLine (clients : ℕ) (bytes : List ℕ) (reply : ReplyRecord)
   pub has_status : reply.status ≡ 3
   pub has_text : reply.text ≡ bad_line_text refusal
 
--- a script's desk is handed out, and this is told of it; of bytes that are none there is no desk
-abbrev pub ScriptAnswer : ℕ → (DeskRecord → ReplyRecord → Type 0) → List ℕ → ReplyRecord → Option DeskRecord → Type 0
-ScriptAnswer clients Tells bytes reply None = TellsBadLine clients bytes reply
-ScriptAnswer clients Tells bytes reply (Some desk) = RanScript clients bytes desk × Tells desk reply
+-- the desk at which a script was run or served is handed out, and this is told of it; of bytes that are none there is no desk
+abbrev pub ScriptAnswer : (ℕ → List ScriptLine → DeskRecord → Type 0) → ℕ → (DeskRecord → ReplyRecord → Type 0) → List ℕ → ReplyRecord → Option DeskRecord → Type 0
+ScriptAnswer Does clients Tells bytes reply None = TellsBadLine clients bytes reply
+ScriptAnswer Does clients Tells bytes reply (Some desk) = DidScript Does clients bytes desk × Tells desk reply
 
 -- ---- what is told of the desk
 
--- `batch`: its transcript
+-- `batch` and `serve`: its transcript
 pub record TellsTranscript (desk : DeskRecord) (reply : ReplyRecord) : Type 0 where
   pub has_status : reply.status ≡ 0
   pub is_transcript : IsTranscript desk reply.text
@@ -87,4 +87,4 @@ pub record TellsNumbers (desk : DeskRecord) (reply : ReplyRecord) : Type 0 where
 -- the script of so many jobs was run, its desk is handed out, and those numbers are told of it
 abbrev pub TrialAnswer : ℕ → ReplyRecord → Option DeskRecord → Type 0
 TrialAnswer jobs reply None = ⊥
-TrialAnswer jobs reply (Some desk) = RanScript script_clients (script_of jobs) desk × TellsNumbers desk reply
+TrialAnswer jobs reply (Some desk) = DidScript RunsScript script_clients (script_of jobs) desk × TellsNumbers desk reply

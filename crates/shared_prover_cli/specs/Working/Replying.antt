@@ -1,11 +1,12 @@
 -- What comes of a command that is asked for.
 use Rattle.std.specs.Prelude.{◌≡◌, ◌≢◌, ℕ, List, Option, None, Result, Ok, Err, IfOk}
 use Rattle.desk_core.specs.DeskRecords.{DeskRecord}
-use Rattle.shared_prover_cli.specs.Commands.{AnswerOf, reads_input, row_of}
+use Rattle.command_words.specs.Words.{IsWordedBy, wording_of}
+use Rattle.shared_prover_cli.specs.Commands.{AnswerOf, reads_input}
 use Rattle.shared_prover_cli.specs.Replies.{ReplyRecord}
 use Rattle.shared_prover_cli.specs.Runs.{HasInput, ReadFails, ReadsBeyond, ReadsWithin, Stream}
 use Rattle.shared_prover_cli.specs.Working.Replies.{reply_view}
-use Rattle.shared_prover_cli.specs.declared.command.Command.{Command}
+use Rattle.command_words.specs.declared.command.Command.{Command}
 use Rattle.shared_prover_cli.specs.declared.reply.Reply.{Reply}
 use Rattle.shared_prover_cli.specs.declared.told.Told.{Told}
 use Rattle.shared_prover_cli.specs.declared.whole.InputFault.{InputFault}
@@ -13,7 +14,7 @@ use Rattle.shared_prover_cli.specs.declared.whole.InputFault.TheVariants.{ReadFa
 
 -- some words ask for it
 abbrev pub CanBeAsked : Command → Type 0
-CanBeAsked command = (words : List (List ℕ)) × (row_of command).asked_by words
+CanBeAsked command = (words : List (List ℕ)) × IsWordedBy (wording_of command) words
 
 -- its reply to the input that it has, and the desk of its script
 pub record IsReplyTo (command : Command) (source : Stream) (reply : ReplyRecord) (desk : Option DeskRecord) : Type 0 where

@@ -2,8 +2,9 @@ ghost use Rattle.std.specs.Prelude.{◌≡◌, ◌≤◌, Err, IfOk};
 ghost use Rattle.desk_core.specs.GoodDesks.{IsGoodDesk};
 ghost use Rattle.desk_core.specs.Limits.{most_clients};
 ghost use Rattle.desk_script.specs.Scripts.{IsFirstBadScriptLine};
+ghost use Rattle.script_runner.specs.Runs.{RunsScript};
 ghost use Rattle.work_maker.specs.Limits.{most_jobs};
-ghost use Rattle.shared_prover_cli.specs.Answers.Scripts.{RanScript, ScriptAnswer, TellsBatchOf, TellsNumbers, TellsTranscript, TrialAnswer};
+ghost use Rattle.shared_prover_cli.specs.Answers.Scripts.{DidScript, ScriptAnswer, TellsBatchOf, TellsNumbers, TellsTranscript, TrialAnswer};
 ghost use Rattle.shared_prover_cli.specs.Working.Replies.{reply_view};
 ghost use Rattle.shared_prover_cli.specs.Working.Scripting.{AllCertified, IsCertified, IsFileOfBatch, NamesBadLine};
 
@@ -32,7 +33,7 @@ pub fn batch_answer<R: Threads + Sync>(
 ) -> Result<Told, AllocError>
     requires some { 1 ≤ clients }
     requires few { clients ≤ most_clients }
-    ensures { IfOk result (λ told. ScriptAnswer clients TellsTranscript input.now (reply_view told.reply) told.desk) }
+    ensures { IfOk result (λ told. ScriptAnswer RunsScript clients TellsTranscript input.now (reply_view told.reply) told.desk) }
 {
     match ran(rt, alloc, input, clients) {
         Ok(desk) => Ok(Told {
@@ -58,7 +59,7 @@ pub fn export_answer<R: Threads + Sync>(
 ) -> Result<Told, AllocError>
     requires some { 1 ≤ clients }
     requires few { clients ≤ most_clients }
-    ensures { IfOk result (λ told. ScriptAnswer clients (TellsBatchOf batch) input.now (reply_view told.reply) told.desk) }
+    ensures { IfOk result (λ told. ScriptAnswer RunsScript clients (TellsBatchOf batch) input.now (reply_view told.reply) told.desk) }
 {
     match ran(rt, alloc, input, clients) {
         Ok(desk) => Ok(Told {
@@ -92,7 +93,7 @@ pub fn trial_answer<R: Threads + Sync>(rt: &R, alloc: Global, jobs: u32) -> Resu
 }
 
 // The desk at which the script was run that the bytes are.
-#[tactic(auto, using(crate::proofs::ScriptLemmas::ran_script))]
+#[tactic(auto, using(crate::proofs::ScriptLemmas::did_script))]
 fn ran<R: Threads + Sync>(
     rt: &R,
     alloc: Global,
@@ -101,7 +102,7 @@ fn ran<R: Threads + Sync>(
 ) -> Result<Desk, End<ScriptRefusal>>
     requires some { 1 ≤ clients }
     requires few { clients ≤ most_clients }
-    ensures ran { IfOk result (RanScript clients bytes.now) }
+    ensures ran { IfOk result (DidScript RunsScript clients bytes.now) }
     ensures refused { (r : ScriptRefusal) → result ≡ Err (End.Refused r) → IsFirstBadScriptLine clients bytes.now r }
 {
     let script = match read_script(alloc, bytes, clients) {
@@ -115,8 +116,8 @@ fn ran<R: Threads + Sync>(
     }
 }
 
-// The reply to bytes that are no script.
-fn bad_line_reply(alloc: Global, refusal: ScriptRefusal) -> Result<Reply, AllocError>
+/// The reply to bytes that are no script.
+pub fn bad_line_reply(alloc: Global, refusal: ScriptRefusal) -> Result<Reply, AllocError>
     ensures { IfOk result (λ reply. NamesBadLine refusal (reply_view reply)) }
 {
     Ok(Reply {
@@ -125,7 +126,8 @@ fn bad_line_reply(alloc: Global, refusal: ScriptRefusal) -> Result<Reply, AllocE
     })
 }
 
-fn transcript_reply(alloc: Global, desk: &Desk) -> Result<Reply, AllocError>
+/// The reply that tells the transcript.
+pub fn transcript_reply(alloc: Global, desk: &Desk) -> Result<Reply, AllocError>
     ensures { IfOk result (λ reply. TellsTranscript desk.now (reply_view reply)) }
 {
     Ok(Reply {

@@ -1,0 +1,5 @@
+mod Numbers
+mod FirstWords
+mod Asked
+mod OneCommand
+mod Worded

@@ -1,0 +1,7 @@
+use Rattle.clap.specs.Matches.{found_of}
+use Rattle.clap.specs.Walk.{rows_of}
+use Rattle.command_words.proofs.Asked.{no_make}
+use Rattle.command_words.proofs.matched.make_of.Goals as goal
+
+pub returns-in_default : goal.returns-in_default
+returns-in_default c = record { some = tt; none = no_make (rows_of (found_of c.args.matches.now)) c.in_default.ensures.none }

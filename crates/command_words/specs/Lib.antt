@@ -1,0 +1,5 @@
+pub mod Limits
+pub mod Numbers
+pub mod Readings
+pub mod Words
+pub mod Working
