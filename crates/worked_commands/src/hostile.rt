@@ -52,7 +52,10 @@ fn a_second_read_that_fails_writes_nothing(rt: HostRuntime) -> Result<(), Fail> 
     let alloc = rt.alloc();
     for (words, input) in [
         (words_of(alloc, &["replay"])?, decode(alloc, FIVE)?),
-        (words_of(alloc, &["check"])?, decode(alloc, FIVE_CERTIFICATE)?),
+        (
+            words_of(alloc, &["check"])?,
+            decode(alloc, FIVE_CERTIFICATE)?,
+        ),
         (
             words_of(alloc, &["batch", "--clients", "1"])?,
             b"settle 0\nsettle 0\n".to_vec(alloc)?,
