@@ -2,6 +2,7 @@ use std::sync::{Condvar, Mutex, Wait};
 
 /// Lets workers that found nothing to do sleep until somebody rings. Its count of rings wraps at 2^64 and serves waiting alone: no
 /// contract speaks of it, and nothing is promised of who is woken, or when.
+#[derive(Drop)]
 pub struct Bell {
     rings: Mutex<u64>,
     rung: Condvar,
