@@ -1,43 +1,32 @@
+ghost use Rattle.std.specs.Prelude.{◌≡◌};
+
 use crate::passes::{desk_for_three, offered};
 use batch_runner::{BootMaker, Maker};
-use boot_program::{Certified, Parcel};
-use cairo_model::{ReadRefusal, Refusal};
-use desk_core::{JobPhase, Offer, RegisterEnd, Reply};
-use hex::decode;
-use pie_replay::admit;
+use boot_program::Certified;
+use desk_core::{JobPhase, RegisterEnd, Reply};
 use row_checker::certify;
-use session_desk::{SharedDesk, offer_of};
+use session_desk::{Held, SharedDesk};
 use std::alloc::{AllocError, Global};
+use std::sync::Wait;
 use std::test::Fail;
 use std::thread::Threads;
+use turn_lock::Pass;
 use worked_vectors::files::FIVE;
 
-#[test]
-fn bytes_that_are_no_file_are_offered_as_a_refusal(rt: HostRuntime) -> Result<(), Fail> {
-    let offer = offer_of(rt.alloc(), b"CAIRO")?;
-    let refusal = Refusal::Read(ReadRefusal::BadMagic);
-    assert!(rt; matches!(offer, Offer::Refused(r) if r == refusal));
-    Ok(())
-}
-
-#[test]
-fn a_client_submits_and_asks(rt: HostRuntime) -> Result<(), Fail> {
-    let alloc = rt.alloc();
-    let (desk, mut client, mut other, _) = desk_for_three(&rt, alloc)?;
-    let reply = desk.submit(&rt, alloc, &mut client, 0, offered(alloc, FIVE)?)?;
-    assert_eq!(rt; reply, Reply::Admitted(0));
-    let five = admit(alloc, decode(alloc, FIVE)?.as_slice())?;
-    assert_eq!(rt;
-        desk.ask(&rt, alloc, &mut other, 0, five.fact())?,
-        Reply::No
-    );
-    let told = desk.status(&rt, &mut client, 0, 0)?;
-    assert_eq!(rt; told, Reply::IsAt(JobPhase::Waiting));
-    Ok(())
-}
-
-// The certificate of the bootloader's run over the parcel, with it.
-fn certified(rt: &(impl Threads + Sync), alloc: Global, parcel: Parcel) -> Result<Certified, Fail> {
+// A batch of the program that writes 5, taken and certified.
+fn certified<R: Threads + Wait + Sync>(
+    rt: &R,
+    alloc: Global,
+    desk: &SharedDesk,
+    worker: &mut Pass<Held>,
+) -> Result<Certified, Fail>
+    requires worker { worker.old.lock ≡ desk.now.lock }
+    ensures worker { worker.new.lock ≡ worker.old.lock }
+{
+    let (_, parcel) = desk.take(rt, alloc, worker)?;
+    let Some(parcel) = parcel else {
+        return Err(Fail::from(AllocError));
+    };
     let cert = BootMaker.make(alloc, &parcel)?;
     match certify(rt, alloc, cert, parcel, 2) {
         Ok(certified) => Ok(certified),
@@ -46,18 +35,15 @@ fn certified(rt: &(impl Threads + Sync), alloc: Global, parcel: Parcel) -> Resul
 }
 
 #[test]
-fn a_batch_is_given_back_and_registered(rt: HostRuntime) -> Result<(), Fail> {
+fn a_batch_is_sealed_given_back_and_registered(rt: HostRuntime) -> Result<(), Fail> {
     let alloc = rt.alloc();
     let (desk, mut client, mut worker, mut other) = desk_for_three(&rt, alloc)?;
     let _ = desk.submit(&rt, alloc, &mut client, 0, offered(alloc, FIVE)?)?;
     assert_eq!(rt; desk.seal(&rt, alloc, &mut worker)?, Reply::SealedBatch(0));
-    assert_eq!(rt; desk.take(&rt, alloc, &mut other)?.0, Reply::TakenBatch(0));
+    let _ = desk.take(&rt, alloc, &mut other)?;
     assert_eq!(rt; desk.give_back(&rt, &mut other, 0)?, Reply::Returned);
-    let (_, Some(parcel)) = desk.take(&rt, alloc, &mut worker)? else {
-        assert!(rt; false, "no parcel");
-        return Ok(());
-    };
-    let end = desk.register(&rt, alloc, &mut worker, 0, certified(&rt, alloc, parcel)?);
+    let certified = certified(&rt, alloc, &desk, &mut worker)?;
+    let end = desk.register(&rt, alloc, &mut worker, 0, certified);
     assert!(rt; matches!(end, RegisterEnd::Done));
     let told = desk.status(&rt, &mut client, 0, 0)?;
     assert_eq!(rt; told, Reply::IsAt(JobPhase::Registered));
@@ -65,16 +51,21 @@ fn a_batch_is_given_back_and_registered(rt: HostRuntime) -> Result<(), Fail> {
 }
 
 #[test]
-fn a_closed_desk_is_given_out(rt: HostRuntime) -> Result<(), Fail> {
+fn a_closed_desk_admits_nothing(rt: HostRuntime) -> Result<(), Fail> {
     let alloc = rt.alloc();
-    let (desk, passes) = SharedDesk::new(&rt, alloc, 1, 1)?;
-    let desk = desk.finish(&rt, passes);
-    assert_eq!(rt; desk.clients(), 1);
-    assert_eq!(rt; desk.entries().len(), 0);
     let (desk, mut client, mut other, _) = desk_for_three(&rt, alloc)?;
     assert_eq!(rt; desk.close(&rt, &mut other)?, Reply::Closed);
     desk.meet(&mut client, &mut other);
     let reply = desk.submit(&rt, alloc, &mut client, 0, offered(alloc, FIVE)?)?;
     assert_eq!(rt; reply, Reply::Closed);
+    Ok(())
+}
+
+#[test]
+fn a_desk_is_given_out(rt: HostRuntime) -> Result<(), Fail> {
+    let (shared, passes) = SharedDesk::new(&rt, rt.alloc(), 2, 3)?;
+    let desk = shared.finish(&rt, passes);
+    assert_eq!(rt; desk.clients(), 2);
+    assert_eq!(rt; desk.entries().len(), 0);
     Ok(())
 }

@@ -1,4 +1,5 @@
 ghost use Rattle.std.specs.Prelude.{◌≡◌};
+ghost use Rattle.session_desk.specs.SeenDesks.{IsIdlePass};
 
 use crate::passes::{desk_for_three, offered};
 use batch_runner::{BootMaker, Maker};
@@ -8,8 +9,12 @@ use cairo_model::{Cert, felt_of};
 use desk_core::{JobPhase, Reply};
 use hex::decode;
 use pie_replay::admit;
+use session_desk::{Held, SharedDesk};
 use std::alloc::{AllocError, Global};
+use std::sync::Wait;
 use std::test::Fail;
+use std::thread::Threads;
+use turn_lock::Pass;
 use worked_vectors::files::{EMPTY, FIVE};
 
 // Gives the certificate of one parcel for every other.
@@ -42,71 +47,77 @@ impl Maker for WantfulMaker {
     }
 }
 
-#[test]
-fn a_worker_is_done_when_the_desk_is_closed(rt: HostRuntime) -> Result<(), Fail> {
-    let alloc = rt.alloc();
-    let (desk, mut client, mut worker, _) = desk_for_three(&rt, alloc)?;
-    let _ = desk.submit(&rt, alloc, &mut client, 0, offered(alloc, FIVE)?)?;
-    let _ = desk.close(&rt, &mut client)?;
-    let bell = Bell::new();
-    bell.ring(&rt);
-    assert_eq!(rt; bell.listen(&rt, 0), 1);
-    let end = work(&rt, alloc, &desk, &mut worker, &BootMaker, &OpenGate, &bell);
-    assert!(rt; matches!(end, WorkEnd::Drained));
-    let told = desk.status(&rt, &mut client, 0, 0)?;
-    assert_eq!(rt; told, Reply::IsAt(JobPhase::Registered));
-    assert_eq!(rt; bell.count(&rt), 1);
-    Ok(())
+// How a worker ends where the program that writes 5 waits at a closed desk, and where its job stands then.
+fn worked<R: Threads + Wait + Sync, M: Maker>(
+    rt: &R,
+    alloc: Global,
+    desk: &SharedDesk,
+    client: &mut Pass<Held>,
+    worker: &mut Pass<Held>,
+    maker: &M,
+) -> Result<(WorkEnd, Reply), Fail>
+    requires own { (client.old.lock ≡ desk.now.lock) × (client.old.width ≡ 1) }
+    requires worker { worker.old.lock ≡ desk.now.lock }
+    requires idle { IsIdlePass worker.old }
+{
+    let _ = desk.submit(rt, alloc, client, 0, offered(alloc, FIVE)?)?;
+    let _ = desk.close(rt, client)?;
+    let end = work(rt, alloc, desk, worker, maker, &OpenGate, &Bell::new());
+    let told = desk.status(rt, client, 0, 0)?;
+    Ok((end, told))
 }
 
 #[test]
-fn a_dishonest_makers_batch_is_rejected(rt: HostRuntime) -> Result<(), Fail> {
-    let alloc = rt.alloc();
+fn an_honest_makers_batch_is_registered(rt: HostRuntime) -> Result<(), Fail> {
+    let (desk, mut client, mut worker, _) = desk_for_three(&rt, rt.alloc())?;
+    let (end, told) = worked(&rt, rt.alloc(), &desk, &mut client, &mut worker, &BootMaker)?;
+    assert!(rt; matches!(end, WorkEnd::Drained));
+    assert_eq!(rt; told, Reply::IsAt(JobPhase::Registered));
+    Ok(())
+}
+
+// The parcel of the program that does nothing.
+fn empty_parcel(alloc: Global) -> Result<Parcel, Fail> {
     let empty = admit(alloc, decode(alloc, EMPTY)?.as_slice())?;
     let _empty = empty.states();
     let mut tasks = Vec::new(alloc);
     tasks.push(empty)?;
+    Ok(Parcel { batch: 0, tasks })
+}
+
+#[test]
+fn a_dishonest_makers_batch_is_sealed_again(rt: HostRuntime) -> Result<(), Fail> {
     let maker = OneCertMaker {
-        parcel: Parcel { batch: 0, tasks },
+        parcel: empty_parcel(rt.alloc())?,
     };
-    let (desk, mut client, mut worker, _) = desk_for_three(&rt, alloc)?;
-    let _ = desk.submit(&rt, alloc, &mut client, 0, offered(alloc, FIVE)?)?;
-    let end = work(
-        &rt,
-        alloc,
-        &desk,
-        &mut worker,
-        &maker,
-        &OpenGate,
-        &Bell::new(),
-    );
+    let (desk, mut client, mut worker, _) = desk_for_three(&rt, rt.alloc())?;
+    let (end, told) = worked(&rt, rt.alloc(), &desk, &mut client, &mut worker, &maker)?;
     let wanted = RunFault::Output(1, Some(felt_of(9)), Some(felt_of(10)));
     assert!(rt; matches!(end, WorkEnd::Rejected(0, fault) if fault == wanted));
-    let told = desk.status(&rt, &mut client, 0, 0)?;
     assert_eq!(rt; told, Reply::IsAt(JobPhase::Sealed));
-    let five = admit(alloc, decode(alloc, FIVE)?.as_slice())?;
-    assert_eq!(rt;
-        desk.ask(&rt, alloc, &mut client, 0, five.fact())?,
-        Reply::No
-    );
     Ok(())
 }
 
 #[test]
 fn a_batch_whose_maker_wants_memory_is_sealed_again(rt: HostRuntime) -> Result<(), Fail> {
-    let alloc = rt.alloc();
-    let (desk, mut client, mut worker, mut other) = desk_for_three(&rt, alloc)?;
-    let _ = desk.submit(&rt, alloc, &mut client, 0, offered(alloc, FIVE)?)?;
-    let end = work(
+    let (desk, mut client, mut worker, _) = desk_for_three(&rt, rt.alloc())?;
+    let (end, told) = worked(
         &rt,
-        alloc,
+        rt.alloc(),
         &desk,
+        &mut client,
         &mut worker,
         &WantfulMaker,
-        &OpenGate,
-        &Bell::new(),
-    );
+    )?;
     assert!(rt; matches!(end, WorkEnd::OutOfMemory));
-    assert_eq!(rt; desk.take(&rt, alloc, &mut other)?.0, Reply::TakenBatch(0));
+    assert_eq!(rt; told, Reply::IsAt(JobPhase::Sealed));
     Ok(())
+}
+
+#[test]
+fn a_bell_counts_its_rings(rt: HostRuntime) {
+    let bell = Bell::new();
+    bell.ring(&rt);
+    assert_eq!(rt; bell.listen(&rt, 0), 1);
+    assert_eq!(rt; bell.count(&rt), 1);
 }

@@ -15,7 +15,8 @@ pub(crate) fn desk_for_three<R: Sync>(
     alloc: Global,
 ) -> Result<(SharedDesk, Pass<Held>, Pass<Held>, Pass<Held>), AllocError>
     ensures first { IfOk result (λ made. (made.1.lock ≡ made.0.lock) × (made.1.width ≡ 1)) }
-    ensures second { IfOk result (λ made. (made.2.lock ≡ made.0.lock) × (made.2.width ≡ 1) × IsIdlePass made.2) }
+    ensures second { IfOk result (λ made. (made.2.lock ≡ made.0.lock) × (made.2.width ≡ 1)) }
+    ensures second_idle { IfOk result (λ made. IsIdlePass made.2) }
     ensures third { IfOk result (λ made. (made.3.lock ≡ made.0.lock) × (made.3.width ≡ 1)) }
 {
     let (desk, mut passes) = SharedDesk::new(rt, alloc, 1, 3)?;
