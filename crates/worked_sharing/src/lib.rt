@@ -2,9 +2,9 @@
 #![tactic(auto)]
 
 #[cfg(test)]
-mod asking;
-#[cfg(test)]
 mod desks;
+#[cfg(test)]
+mod gates;
 #[cfg(test)]
 mod makers;
 #[cfg(test)]
