@@ -35,7 +35,6 @@ fn threads_reply_to_each_client_as_one_thread_does(rt: HostRuntime) -> Result<()
         assert!(rt; false, "a transcript is no text");
         return Ok(());
     };
-    let mut admitted = 0;
     for start in [
         "client 0 submit ",
         "client 1 submit ",
@@ -50,9 +49,8 @@ fn threads_reply_to_each_client_as_one_thread_does(rt: HostRuntime) -> Result<()
         for line in &lines {
             assert!(rt; line.contains(" submit admitted "));
         }
-        admitted += lines.len();
+        assert_eq!(rt; lines.len(), 10);
     }
-    assert_eq!(rt; admitted, 40);
     assert_eq!(rt; lines_with(alloc, text, "fact ")?.len(), 40);
     assert!(rt; text.ends_with("\nend\n"));
     Ok(())
