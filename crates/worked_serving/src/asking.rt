@@ -1,5 +1,5 @@
 use batch_workers::Gate;
-use shared_prover_cli::{Ended, MemSink, SureSource, run_plain, run_serve};
+use shared_prover_cli::{MemSink, SureSource, run_plain, run_serve};
 use std::alloc::{AllocError, Global};
 use std::sync::Wait;
 use std::test::Fail;
@@ -18,36 +18,58 @@ fn words_of(alloc: Global, texts: &[&str]) -> Result<Vec<String>, AllocError> {
     Ok(words)
 }
 
-/// What `run_serve` ends with at these words and bytes, and what it writes.
+/// How a call ended: the number of its status, whether it handed out a desk, and what it wrote.
+#[derive(Drop)]
+pub struct Answer {
+    pub status: u8,
+    pub has_desk: bool,
+    pub text: Vec<u8>,
+}
+
+/// How `run_serve` ends at these words and bytes.
 pub fn served(
     rt: &(impl Threads + Wait + Sync + AllocGlobal),
     texts: &[&str],
     bytes: Vec<u8>,
     gate: &impl Gate,
-) -> Result<(Ended, Vec<u8>), Fail> {
+) -> Result<Answer, Fail> {
     let words = words_of(rt.alloc(), texts)?;
     let mut source = SureSource::new(bytes);
     let mut sink = MemSink::new(rt.alloc(), ROOM, PIECE, Vec::new(rt.alloc()))?;
-    let ended = run_serve(
-        rt,
-        rt.alloc(),
-        words.as_slice(),
-        &mut source,
-        &mut sink,
-        gate,
-    );
-    Ok((ended, sink.bytes().to_vec(rt.alloc())?))
+    let (status, has_desk) = {
+        let ended = run_serve(
+            rt,
+            rt.alloc(),
+            words.as_slice(),
+            &mut source,
+            &mut sink,
+            gate,
+        );
+        (ended.status.number(), ended.desk.is_some())
+    };
+    Ok(Answer {
+        status,
+        has_desk,
+        text: sink.bytes().to_vec(rt.alloc())?,
+    })
 }
 
-/// What `run_plain` ends with at these words and bytes, and what it writes.
+/// How `run_plain` ends at these words and bytes.
 pub fn run_alone(
     rt: &(impl Threads + Sync + AllocGlobal),
     texts: &[&str],
     bytes: Vec<u8>,
-) -> Result<(Ended, Vec<u8>), Fail> {
+) -> Result<Answer, Fail> {
     let words = words_of(rt.alloc(), texts)?;
     let mut source = SureSource::new(bytes);
     let mut sink = MemSink::new(rt.alloc(), ROOM, PIECE, Vec::new(rt.alloc()))?;
-    let ended = run_plain(rt, rt.alloc(), words.as_slice(), &mut source, &mut sink);
-    Ok((ended, sink.bytes().to_vec(rt.alloc())?))
+    let (status, has_desk) = {
+        let ended = run_plain(rt, rt.alloc(), words.as_slice(), &mut source, &mut sink);
+        (ended.status.number(), ended.desk.is_some())
+    };
+    Ok(Answer {
+        status,
+        has_desk,
+        text: sink.bytes().to_vec(rt.alloc())?,
+    })
 }

@@ -64,7 +64,7 @@ fn a_worker_goes_on_while_another_is_held(rt: HostRuntime) -> Result<(), Fail> {
     let script = empty_runs(rt.alloc(), 0, 33)?;
     let words = ["serve", "--clients", "1", "--workers", "2"];
     let ended = served(&rt, &words, script, &gate)?;
-    assert_eq!(rt; ended.0.status.number(), 0);
+    assert_eq!(rt; ended.status, 0);
     assert!(rt; gate.first_held.load(Ordering::SeqCst));
     assert!(rt; !gate.too_late.load(Ordering::SeqCst));
     Ok(())
@@ -102,7 +102,7 @@ fn two_clients_submit_at_one_time(rt: HostRuntime) -> Result<(), Fail> {
     script.extend_from_slice(more.as_slice())?;
     let words = ["serve", "--clients", "2", "--workers", "1"];
     let ended = served(&rt, &words, script, &gate)?;
-    assert_eq!(rt; ended.0.status.number(), 0);
+    assert_eq!(rt; ended.status, 0);
     assert!(rt; !gate.too_late.load(Ordering::SeqCst));
     Ok(())
 }

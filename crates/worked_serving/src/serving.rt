@@ -26,11 +26,11 @@ fn threads_reply_to_each_client_as_one_thread_does(rt: HostRuntime) -> Result<()
         script,
         &OpenGate,
     )?;
-    assert_eq!(rt; (plain.0.status.number(), shared.0.status.number()), (0, 0));
-    assert!(rt; shared.0.desk.is_some());
+    assert_eq!(rt; (plain.status, shared.status), (0, 0));
+    assert!(rt; shared.has_desk);
     let (Ok(wanted), Ok(text)) = (
-        str::from_utf8(plain.1.as_slice()),
-        str::from_utf8(shared.1.as_slice()),
+        str::from_utf8(plain.text.as_slice()),
+        str::from_utf8(shared.text.as_slice()),
     ) else {
         assert!(rt; false, "a transcript is no text");
         return Ok(());
@@ -73,15 +73,15 @@ fn other_words_are_usage(rt: HostRuntime) -> Result<(), Fail> {
         &["serve", "--clients", "3", "--workers", "2", "more"],
     ] {
         let ended = served(&rt, texts, Vec::new(rt.alloc()), &OpenGate)?;
-        assert_eq!(rt; ended.0.status.number(), 2);
-        assert!(rt; ended.1.is_empty());
+        assert_eq!(rt; ended.status, 2);
+        assert!(rt; ended.text.is_empty());
     }
     let plain = run_alone(
         &rt,
         &["serve", "--clients", "3", "--workers", "2"],
         Vec::new(rt.alloc()),
     )?;
-    assert_eq!(rt; plain.0.status.number(), 2);
+    assert_eq!(rt; plain.status, 2);
     Ok(())
 }
 
@@ -93,9 +93,9 @@ fn options_come_in_any_order_and_bad_lines_are_named(rt: HostRuntime) -> Result<
         (b"settle 0\nsettle 3\n", 3, b"script 2 4\n"),
     ] {
         let ended = served(&rt, &words, script.to_vec(rt.alloc())?, &OpenGate)?;
-        assert_eq!(rt; ended.0.status.number(), status);
-        assert_eq!(rt; ended.1.as_slice(), text);
-        assert_eq!(rt; ended.0.desk.is_some(), status == 0);
+        assert_eq!(rt; ended.status, status);
+        assert_eq!(rt; ended.text.as_slice(), text);
+        assert_eq!(rt; ended.has_desk, status == 0);
     }
     Ok(())
 }
