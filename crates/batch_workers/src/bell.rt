@@ -1,7 +1,7 @@
 use std::sync::{Condvar, Mutex, Wait};
 
-/// Lets workers that found nothing to do sleep until somebody rings. Its count of rings wraps at 2^64 and serves waiting alone: no
-/// contract speaks of it, and nothing is promised of who is woken, or when.
+/// Lets workers that found nothing to do sleep until somebody rings. A ring wakes one of them, and who ends rings for the next. Its
+/// count of rings wraps at 2^64 and serves waiting alone: no contract speaks of it, and nothing is promised of who is woken, or when.
 #[derive(Drop)]
 pub struct Bell {
     rings: Mutex<u64>,
@@ -21,11 +21,11 @@ impl Bell {
         *self.rings.lock(rt)
     }
 
-    /// Wakes all who listen.
+    /// Wakes one of those who listen, if any does. Who comes to listen with an older count than now doesn't sleep.
     pub fn ring<R: Wait>(&self, rt: &R) {
         let mut rings = self.rings.lock(rt);
         *rings = rings.wrapping_add(1);
-        self.rung.notify_all();
+        self.rung.notify_one();
     }
 
     /// Sleeps while the count is the one that was heard, and answers the count then.

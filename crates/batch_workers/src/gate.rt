@@ -1,7 +1,10 @@
+ghost use Rattle.std.specs.Thread.{IsSync};
+
 use crate::point::Point;
 use std::sync::Wait;
 
-/// What a thread meets on its way, so that tests may hold it there. A gate changes no answer.
+/// What a thread meets on its way, so that tests may hold it there, or ask the desk what stands. A gate changes no answer.
 pub trait Gate: Sync {
-    fn reach<R: Wait + Sync>(&self, rt: &R, point: Point);
+    fn reach<R: Wait + Sync>(&self, rt: &R, point: Point)
+        requires { IsSync R.row };
 }

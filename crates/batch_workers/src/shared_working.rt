@@ -16,7 +16,7 @@ use std::thread::Threads;
 use turn_lock::Pass;
 
 /// Takes, makes, certifies and registers batches of a shared desk, and seals what waits, until no batch is sealed and no job waits
-/// at a closed desk (docs/SERVICE.md). Where the desk is open yet, it waits for the bell.
+/// at a closed desk (docs/SERVICE.md). Where the desk is open yet, it waits for the bell. When it ends, it rings for the next worker.
 pub fn work<R: Threads + Wait + Sync, M: Maker, G: Gate>(
     rt: &R,
     alloc: Global,
@@ -30,6 +30,25 @@ pub fn work<R: Threads + Wait + Sync, M: Maker, G: Gate>(
     requires idle { IsIdlePass pass.old }
     ensures done { WorkerDone (EndOver pass.old.number) EndOpen (M.honest maker.now) (M.gives maker.now) pass.old pass.new result }
     // So an honest maker, as BootMaker is, never has a batch rejected.
+    ensures honest { M.honest maker.now → IsNotRejected result }
+{
+    let end = work_by_the_bell(rt, alloc, desk, pass, maker, gate, bell);
+    bell.ring(rt);
+    end
+}
+
+fn work_by_the_bell<R: Threads + Wait + Sync, M: Maker, G: Gate>(
+    rt: &R,
+    alloc: Global,
+    desk: &SharedDesk,
+    pass: &mut Pass<Held>,
+    maker: &M,
+    gate: &G,
+    bell: &Bell,
+) -> WorkEnd
+    requires own { pass.old.lock ≡ desk.now.lock }
+    requires idle { IsIdlePass pass.old }
+    ensures done { WorkerDone (EndOver pass.old.number) EndOpen (M.honest maker.now) (M.gives maker.now) pass.old pass.new result }
     ensures honest { M.honest maker.now → IsNotRejected result }
 {
     let mut heard = bell.count(rt);

@@ -19,7 +19,7 @@ use std::alloc::{AllocError, Global};
 use std::thread::Threads;
 
 /// In how many chunks the rows of a batch's certificate are checked.
-const CHUNKS: usize = 8;
+const CHUNKS: usize = 2;
 
 /// How often it is tried again to give a batch back, where memory is wanted.
 pub(crate) const MOST_RETRIES: u32 = 64;

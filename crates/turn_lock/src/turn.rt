@@ -16,8 +16,11 @@ use std::hint::spin_loop;
 use std::sync::Wait;
 use std::thread::yield_now;
 
-/// How often a waiting pass looks at the word that is served before it yields its processor.
-const LOOKS: u32 = 64;
+/// How often a waiting pass looks at the word that is served before it sleeps.
+const LOOKS: u32 = 1024;
+
+/// The half of a word by which a sleeping thread is told that the word has changed.
+const LOW_HALF: u64 = 0xffff_ffff;
 
 impl<V: Kept> TurnLock<V> {
     /// Draws a ticket, waits until it is served, makes the change, and serves the next ticket.
@@ -51,7 +54,7 @@ impl<V: Kept> TurnLock<V> {
         self.take_out(rt, seat, ticket)
     }
 
-    // Serves the next ticket. The slot is at home again.
+    // Serves the next ticket, and wakes those who sleep. The slot is at home again.
     fn serve_next(&self, seat: &mut Seat<Option<V>, View<V::Note>>)
         requires own { seat.old.table_id ≡ self.now.lock }
         requires turn { (value : V) × Ending V.journal V.turns V.width seat.old.me value }
@@ -59,6 +62,7 @@ impl<V: Kept> TurnLock<V> {
         ensures ended { (value : V) (added : List (ℕ × V.Note)) → seat.old.me.1 ≡ (0, Some value) ∷ [] → V.journal value ≡ seat.old.me.0.seen ++ added → seat.new.me ≡ (raised seat.old.me.0 (V.journal value) added, []) }
     {
         self.table.shared.fetch_add::<Raise>(seat, 1, 1);
+        self.table.shared.wake_all(1);
     }
 
     // Waits until the ticket is served. The slot is then the seat's.
@@ -73,9 +77,18 @@ impl<V: Kept> TurnLock<V> {
             if self.look(seat, ticket) {
                 return;
             }
-            yield_now();
+            self.sleep(rt, ticket);
         }
         unreachable!()
+    }
+
+    // Sleeps until another ticket than now is served, unless this one is. A change of the word after it was read, and before the sleep
+    // begins, is seen by its low half.
+    fn sleep<R: Wait>(&self, rt: &R, ticket: u64) {
+        let served = self.table.shared.peek(1);
+        if served != ticket {
+            self.table.shared.park(rt, 1, (served & LOW_HALF) as u32);
+        }
     }
 
     // Looks a few times whether the ticket is served.

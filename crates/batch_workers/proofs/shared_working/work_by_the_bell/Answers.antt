@@ -3,7 +3,7 @@ use Rattle.batch_workers.specs.SharedWorks.{EndOpen, EndOver}
 use Rattle.batch_workers.specs.Working.SharedRounds.{PassRound}
 use Rattle.batch_workers.specs.declared.shared_round.SharedRound.TheVariants as round
 use Rattle.batch_workers.proofs.PassRounds.{ends_so, goes_on, honest_ends, open_goes, open_start, over_drained, waits_on}
-use Rattle.batch_workers.proofs.shared_working.work.Goals as goal
+use Rattle.batch_workers.proofs.shared_working.work_by_the_bell.Goals as goal
 
 pub loop-init : goal.loop-init
 loop-init g c = (open_start c.args.pass.now, c.requires.idle)
