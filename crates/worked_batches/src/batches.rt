@@ -1,5 +1,7 @@
 //! The steps and outputs of the batches were told by an independent program. Each certificate is checked row by row.
 
+ghost use Rattle.std.specs.Prelude.{◌≤◌};
+
 use batch_runner::{BootMaker, Maker};
 use boot_program::Parcel;
 use cairo_model::{Cert, Checked};
@@ -11,6 +13,7 @@ use row_checker::certify;
 use std::alloc::{AllocError, Global};
 use std::process::Abort;
 use std::test::Fail;
+use std::thread::Threads;
 use worked_vectors::files::{
     EMPTY, EMPTY_OF_5, EMPTY_OF_6, EMPTY_OF_7, EMPTY_OF_8, FIVE, HASH0, RANGE_7, TALL,
 };
@@ -20,7 +23,7 @@ fn task(alloc: Global, file: &str) -> Result<Checked, Fail> {
 }
 
 // Three tasks are within the limits of a batch, whatever they are.
-fn parcel_of_three(
+fn of_three(
     alloc: Global,
     first: Checked,
     second: Checked,
@@ -36,13 +39,26 @@ fn parcel_of_three(
     Ok(Parcel { batch: 0, tasks })
 }
 
-fn parcel_of_two(alloc: Global, first: Checked, second: Checked) -> Result<Parcel, AllocError> {
+fn of_two(alloc: Global, first: Checked, second: Checked) -> Result<Parcel, AllocError> {
     let _first = first.states();
     let _second = second.states();
     let mut tasks = Vec::new(alloc);
     tasks.push(first)?;
     tasks.push(second)?;
     Ok(Parcel { batch: 0, tasks })
+}
+
+// The files of the parcel are in hexadecimal.
+fn parcel_of_three(alloc: Global, files: [&str; 3]) -> Result<Parcel, Fail> {
+    let [first, second, third] = files;
+    let first = task(alloc, first)?;
+    let second = task(alloc, second)?;
+    Ok(of_three(alloc, first, second, task(alloc, third)?)?)
+}
+
+fn parcel_of_two(alloc: Global, first: &str, second: &str) -> Result<Parcel, Fail> {
+    let first = task(alloc, first)?;
+    Ok(of_two(alloc, first, task(alloc, second)?)?)
 }
 
 // The certificate has these outputs, and one state more than steps.
@@ -69,27 +85,46 @@ fn expect_batch(rt: &impl Abort, cert: &Cert, steps: usize, outputs: &[u64]) {
     }
 }
 
+// Whether what is made of the parcel is certified for it in so many chunks.
+fn is_certified(
+    rt: &(impl Threads + Sync),
+    alloc: Global,
+    parcel: Parcel,
+    chunks: usize,
+) -> Result<bool, AllocError>
+    requires { 1 ≤ chunks }
+{
+    let cert = BootMaker.make(alloc, &parcel)?;
+    Ok(certify(rt, alloc, cert, parcel, chunks).is_ok())
+}
+
+// The same, and what is made has these outputs, and one state more than steps.
+fn is_certified_with(
+    rt: &(impl Threads + Sync + Abort),
+    alloc: Global,
+    parcel: Parcel,
+    chunks: usize,
+    steps: usize,
+    outputs: &[u64],
+) -> Result<bool, AllocError>
+    requires { 1 ≤ chunks }
+{
+    let cert = BootMaker.make(alloc, &parcel)?;
+    expect_batch(rt, &cert, steps, outputs);
+    Ok(certify(rt, alloc, cert, parcel, chunks).is_ok())
+}
+
 #[test]
 fn a_batch_of_three_prints_what_each_shows(rt: HostRuntime) -> Result<(), Fail> {
-    let parcel = parcel_of_three(
-        rt.alloc(),
-        task(rt.alloc(), EMPTY)?,
-        task(rt.alloc(), FIVE)?,
-        task(rt.alloc(), FIVE)?,
-    )?;
-    let cert = BootMaker.make(rt.alloc(), &parcel)?;
-    expect_batch(
-        &rt,
-        &cert,
-        364,
-        &[
-            3, 9, 1256366875, 4191841772, 2390839014, 1583650134, 223931603, 2708635364,
-            2656205228, 3851522439, 10, 1682648198, 4276435530, 3557564911, 2699579982, 885479782,
-            3474128063, 3852709440, 3500719293, 5, 10, 1682648198, 4276435530, 3557564911,
-            2699579982, 885479782, 3474128063, 3852709440, 3500719293, 5,
-        ],
-    );
-    assert!(rt; certify(&rt, rt.alloc(), cert, parcel, 2).is_ok());
+    let parcel = parcel_of_three(rt.alloc(), [EMPTY, FIVE, FIVE])?;
+    let outputs = [
+        3, 9, 1256366875, 4191841772, 2390839014, 1583650134, 223931603, 2708635364, 2656205228,
+        3851522439, 10, 1682648198, 4276435530, 3557564911, 2699579982, 885479782, 3474128063,
+        3852709440, 3500719293, 5, 10, 1682648198, 4276435530, 3557564911, 2699579982, 885479782,
+        3474128063, 3852709440, 3500719293, 5,
+    ];
+    let certified = is_certified_with(&rt, rt.alloc(), parcel, 2, 364, &outputs)?;
+    assert!(rt; certified);
     Ok(())
 }
 
@@ -109,14 +144,9 @@ fn a_batch_of_two_prints_what_each_shows(rt: HostRuntime) -> Result<(), Fail> {
         (TALL, FIVE, 234, tall.as_slice()),
         (HASH0, RANGE_7, 263, hashed.as_slice()),
     ] {
-        let parcel = parcel_of_two(
-            rt.alloc(),
-            task(rt.alloc(), first)?,
-            task(rt.alloc(), second)?,
-        )?;
-        let cert = BootMaker.make(rt.alloc(), &parcel)?;
-        expect_batch(&rt, &cert, steps, outputs);
-        assert!(rt; certify(&rt, rt.alloc(), cert, parcel, 1).is_ok());
+        let parcel = parcel_of_two(rt.alloc(), first, second)?;
+        let certified = is_certified_with(&rt, rt.alloc(), parcel, 1, steps, outputs)?;
+        assert!(rt; certified);
     }
     Ok(())
 }
@@ -124,44 +154,53 @@ fn a_batch_of_two_prints_what_each_shows(rt: HostRuntime) -> Result<(), Fail> {
 // The hash of a program takes its words by groups of four: four numbers and 5 to 8 words leave each remainder.
 #[test]
 fn programs_of_each_length_make_a_batch(rt: HostRuntime) -> Result<(), Fail> {
-    let one_each = parcel_of_three(
-        rt.alloc(),
-        task(rt.alloc(), EMPTY_OF_5)?,
-        task(rt.alloc(), EMPTY_OF_6)?,
-        task(rt.alloc(), EMPTY_OF_7)?,
-    )?;
-    let cert = BootMaker.make(rt.alloc(), &one_each)?;
-    assert!(rt; certify(&rt, rt.alloc(), cert, one_each, 2).is_ok());
-    let whole = parcel_of_two(
-        rt.alloc(),
-        task(rt.alloc(), EMPTY_OF_8)?,
-        task(rt.alloc(), EMPTY_OF_7)?,
-    )?;
-    let cert = BootMaker.make(rt.alloc(), &whole)?;
-    assert!(rt; certify(&rt, rt.alloc(), cert, whole, 1).is_ok());
+    let one_each = parcel_of_three(rt.alloc(), [EMPTY_OF_5, EMPTY_OF_6, EMPTY_OF_7])?;
+    let first = is_certified(&rt, rt.alloc(), one_each, 2)?;
+    let whole = parcel_of_two(rt.alloc(), EMPTY_OF_8, EMPTY_OF_7)?;
+    let second = is_certified(&rt, rt.alloc(), whole, 1)?;
+    assert_eq!(rt; (first, second), (true, true));
     Ok(())
+}
+
+// The reply to a client that hands in the program that does nothing.
+fn empty_offered(alloc: Global, desk: &mut Desk) -> Result<Reply, Fail> {
+    if desk.clients() == 0 {
+        return Err(Fail::from(AllocError));
+    }
+    let empty = task(alloc, EMPTY)?;
+    Ok(desk.submit(alloc, 0, 0, Offer::Accepted(empty))?)
+}
+
+// The replies to a seal and to a take after seventeen tasks are admitted, with the parcel.
+fn taken_of_seventeen(
+    rt: &impl Abort,
+    alloc: Global,
+    desk: &mut Desk,
+) -> Result<(Reply, Reply, Parcel), Fail> {
+    for number in 0..17u32 {
+        let reply = empty_offered(alloc, desk)?;
+        assert_eq!(rt; reply, Reply::Admitted(number));
+    }
+    let sealed = desk.seal(alloc, 0)?;
+    match desk.take(alloc, 1)? {
+        (taken, Some(parcel)) => Ok((sealed, taken, parcel)),
+        (_, None) => Err(Fail::from(AllocError)),
+    }
 }
 
 #[test]
 fn the_desk_hands_out_sixteen_tasks_at_most(rt: HostRuntime) -> Result<(), Fail> {
-    let mut desk = Desk::new(rt.alloc(), 1)?;
-    for number in 0..17u32 {
-        assert!(rt; desk.clients() > 0);
-        let offer = Offer::Accepted(task(rt.alloc(), EMPTY)?);
-        assert_eq!(rt;
-            desk.submit(rt.alloc(), 0, 0, offer)?,
-            Reply::Admitted(number)
-        );
-    }
-    assert_eq!(rt; desk.seal(rt.alloc(), 0)?, Reply::SealedBatch(0));
-    let (reply, parcel) = desk.take(rt.alloc(), 1)?;
-    assert_eq!(rt; reply, Reply::TakenBatch(0));
-    let Some(parcel) = parcel else {
-        assert!(rt; false, "no parcel");
-        return Ok(());
+    let taken = {
+        let mut desk = Desk::new(rt.alloc(), 1)?;
+        taken_of_seventeen(&rt, rt.alloc(), &mut desk)
     };
-    assert_eq!(rt; parcel.tasks.len(), 16);
-    let cert = BootMaker.make(rt.alloc(), &parcel)?;
-    assert!(rt; certify(&rt, rt.alloc(), cert, parcel, 8).is_ok());
+    let (sealed, taken, parcel) = taken?;
+    let tasks = parcel.tasks.len();
+    let certified = is_certified(&rt, rt.alloc(), parcel, 8)?;
+    assert_eq!(rt;
+        (sealed, taken),
+        (Reply::SealedBatch(0), Reply::TakenBatch(0))
+    );
+    assert_eq!(rt; (tasks, certified), (16, true));
     Ok(())
 }

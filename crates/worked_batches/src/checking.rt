@@ -4,7 +4,7 @@ ghost use Rattle.std.specs.Prelude.{◌≤◌};
 
 use batch_runner::{BootMaker, Maker};
 use boot_program::{Parcel, RowCause, RunFault};
-use cairo_model::{Cert, Checked, End, felt_of};
+use cairo_model::{Cert, End, felt_of};
 use cert_format::{read_cert, write_cert};
 use desk_core::{Desk, Offer};
 use hex::decode;
@@ -43,6 +43,32 @@ fn fault_of(
     }
 }
 
+// The first fault in one chunk, in two and in eight.
+fn faults_of(
+    rt: &(impl Threads + Sync),
+    alloc: Global,
+    cert: &Cert,
+) -> Result<[Option<RunFault>; 3], AllocError> {
+    let in_one = fault_of(rt, alloc, cert, 1)?;
+    let in_two = fault_of(rt, alloc, cert, 2)?;
+    let in_eight = fault_of(rt, alloc, cert, 8)?;
+    Ok([in_one, in_two, in_eight])
+}
+
+// Those of the certificate of a program that writes 5, with another byte at this place.
+fn faults_with(
+    rt: &(impl Threads + Sync),
+    alloc: Global,
+    at: usize,
+    byte: u8,
+) -> Result<[Option<RunFault>; 3], Fail> {
+    let faults = {
+        let cert = changed(alloc, FIVE_CERTIFICATE, &[(at, byte)])?;
+        faults_of(rt, alloc, &cert)
+    };
+    Ok(faults?)
+}
+
 // The last byte of the frame pointer of state 3 is at 452, those of the first and of the last state at 372 and 508.
 #[test]
 fn the_first_fault_is_the_same_in_any_number_of_chunks(rt: HostRuntime) -> Result<(), Fail> {
@@ -52,32 +78,55 @@ fn the_first_fault_is_the_same_in_any_number_of_chunks(rt: HostRuntime) -> Resul
         (372, 16, Some(RunFault::Start(1))),
         (508, 26, Some(RunFault::End(1))),
     ] {
-        let cert = changed(rt.alloc(), FIVE_CERTIFICATE, &[(at, byte)])?;
-        for chunks in [1, 2, 8] {
-            assert_eq!(rt;
-                fault_of(&rt, rt.alloc(), &cert, chunks)?,
-                fault,
-                "in {chunks}"
-            );
-        }
+        let faults = faults_with(&rt, rt.alloc(), at, byte)?;
+        assert_eq!(rt; faults, [fault, fault, fault]);
     }
     Ok(())
 }
 
-// Sixteen tasks, whose run has 2,085 rows, so that it is cut into three chunks.
-fn parcel_of_sixteen(alloc: Global) -> Result<Parcel, Fail> {
-    let mut desk = Desk::new(alloc, 1)?;
-    for _ in 0..16u32 {
-        if desk.clients() > 0 {
-            let task = admit(alloc, decode(alloc, FIVE)?.as_slice())?;
-            desk.submit(alloc, 0, 0, Offer::Accepted(task))?;
-        }
+// A client hands in the program that writes 5.
+fn offer_five(alloc: Global, desk: &mut Desk) -> Result<(), Fail> {
+    if desk.clients() == 0 {
+        return Err(Fail::from(AllocError));
     }
-    desk.seal(alloc, 0)?;
+    let five = admit(alloc, decode(alloc, FIVE)?.as_slice())?;
+    let _ = desk.submit(alloc, 0, 0, Offer::Accepted(five))?;
+    Ok(())
+}
+
+// Sixteen tasks of the desk.
+fn sixteen_taken(alloc: Global, desk: &mut Desk) -> Result<Parcel, Fail> {
+    for _ in 0..16u32 {
+        offer_five(alloc, desk)?;
+    }
+    let _ = desk.seal(alloc, 0)?;
     match desk.take(alloc, 0)? {
         (_, Some(parcel)) => Ok(parcel),
-        (_, None) => Err(AllocError.into()),
+        (_, None) => Err(Fail::from(AllocError)),
     }
+}
+
+fn parcel_of_sixteen(alloc: Global) -> Result<Parcel, Fail> {
+    let mut desk = Desk::new(alloc, 1)?;
+    sixteen_taken(alloc, &mut desk)
+}
+
+fn cert_of_sixteen(alloc: Global) -> Result<Cert, Fail> {
+    let made = {
+        let parcel = parcel_of_sixteen(alloc)?;
+        BootMaker.make(alloc, &parcel)
+    };
+    Ok(made?)
+}
+
+// How many states the certificate of sixteen tasks has, and its bytes. Its run has 2,085 rows, so that it is cut into three
+// chunks.
+fn sixteen_written(alloc: Global) -> Result<(usize, Vec<u8>), Fail> {
+    let (states, bytes) = {
+        let made = cert_of_sixteen(alloc)?;
+        (made.states.len(), write_cert(alloc, &made))
+    };
+    Ok((states, bytes?))
 }
 
 // The certificate of these bytes, with another frame pointer in the state so many before the end.
@@ -96,22 +145,29 @@ fn with_other_state(alloc: Global, bytes: &[u8], from_end: usize) -> Result<Cert
 /// A state is three numbers of eight bytes.
 const STATE_BYTES: usize = 24;
 
+fn faults_with_other_state(
+    rt: &(impl Threads + Sync),
+    alloc: Global,
+    bytes: &[u8],
+    from_end: usize,
+) -> Result<[Option<RunFault>; 3], Fail> {
+    let faults = {
+        let cert = with_other_state(alloc, bytes, from_end)?;
+        faults_of(rt, alloc, &cert)
+    };
+    Ok(faults?)
+}
+
 // The chunks end at rows 1,025 and 2,050.
 #[test]
 fn a_row_is_named_whatever_chunk_it_lies_in(rt: HostRuntime) -> Result<(), Fail> {
-    let made = BootMaker.make(rt.alloc(), &parcel_of_sixteen(rt.alloc())?)?;
-    assert_eq!(rt; made.states.len(), 2_086);
-    let bytes = write_cert(rt.alloc(), &made)?;
+    let (states, bytes) = sixteen_written(rt.alloc())?;
+    assert_eq!(rt; states, 2_086);
     for row in [0u32, 1_023, 1_024, 1_025, 2_049, 2_050, 2_083] {
         let from_end = 2_085usize.saturating_sub(row as usize);
-        let cert = with_other_state(rt.alloc(), bytes.as_slice(), from_end)?;
-        for chunks in [1, 2, 8] {
-            assert_eq!(rt;
-                fault_of(&rt, rt.alloc(), &cert, chunks)?,
-                Some(RunFault::Row(row, RowCause::Next)),
-                "in {chunks}"
-            );
-        }
+        let faults = faults_with_other_state(&rt, rt.alloc(), bytes.as_slice(), from_end)?;
+        let wanted = Some(RunFault::Row(row, RowCause::Next));
+        assert_eq!(rt; faults, [wanted, wanted, wanted]);
     }
     Ok(())
 }
@@ -186,23 +242,35 @@ const OTHER_CODE: [(usize, u8); 65] = [
     (3280, 154),
 ];
 
+// The first fault of the batch of the program that does nothing, with other bytes at these places, in eight chunks.
+fn batch_fault(
+    rt: &(impl Threads + Sync),
+    alloc: Global,
+    changes: &[(usize, u8)],
+) -> Result<Option<RunFault>, Fail> {
+    let fault = {
+        let cert = changed(alloc, EMPTY_BATCH, changes)?;
+        fault_of(rt, alloc, &cert, 8)
+    };
+    Ok(fault?)
+}
+
 // The bootloader's first word ends at 144, and the first word of the printed hash, which is 27 modulo 256, at 3168.
 #[test]
 fn a_batch_is_of_the_bootloader(rt: HostRuntime) -> Result<(), Fail> {
-    let alloc = rt.alloc();
-    let good = changed(alloc, EMPTY_BATCH, &[])?;
-    assert_eq!(rt; fault_of(&rt, alloc, &good, 8)?, None);
-    let word = changed(alloc, EMPTY_BATCH, &[(144, 1)])?;
-    assert_eq!(rt; fault_of(&rt, alloc, &word, 8)?, Some(RunFault::Boot(1)));
-    let hash = changed(alloc, EMPTY_BATCH, &[(3168, 28)])?;
-    assert!(rt; matches!(fault_of(&rt, alloc, &hash, 8)?, Some(RunFault::Row(_, _))));
-    let code = changed(alloc, EMPTY_BATCH, &OTHER_CODE)?;
-    assert!(rt; matches!(fault_of(&rt, alloc, &code, 8)?, Some(RunFault::Row(_, _))));
+    let good = batch_fault(&rt, rt.alloc(), &[])?;
+    let word = batch_fault(&rt, rt.alloc(), &[(144, 1)])?;
+    let hash = batch_fault(&rt, rt.alloc(), &[(3168, 28)])?;
+    let code = batch_fault(&rt, rt.alloc(), &OTHER_CODE)?;
+    assert_eq!(rt; (good, word), (None, Some(RunFault::Boot(1))));
+    assert!(rt; matches!(hash, Some(RunFault::Row(_, _))));
+    assert!(rt; matches!(code, Some(RunFault::Row(_, _))));
     Ok(())
 }
 
-// The one task of a batch.
-fn parcel_of(alloc: Global, task: Checked) -> Result<Parcel, AllocError> {
+// The one task of a batch, by its file.
+fn parcel_of(alloc: Global, pie: &str) -> Result<Parcel, Fail> {
+    let task = admit(alloc, decode(alloc, pie)?.as_slice())?;
     let _run = task.states();
     let mut tasks = Vec::new(alloc);
     tasks.push(task)?;
@@ -216,9 +284,9 @@ fn fault_with(
     digits: &str,
     pie: &str,
 ) -> Result<Option<RunFault>, Fail> {
+    let parcel = parcel_of(alloc, pie)?;
     let cert = changed(alloc, digits, &[])?;
-    let task = admit(alloc, decode(alloc, pie)?.as_slice())?;
-    match certify(rt, alloc, cert, parcel_of(alloc, task)?, 2) {
+    match certify(rt, alloc, cert, parcel, 2) {
         Ok(_) => Ok(None),
         Err(End::Refused(fault)) => Ok(Some(fault)),
         Err(End::OutOfMemory) => Err(AllocError.into()),
@@ -227,14 +295,11 @@ fn fault_with(
 
 #[test]
 fn a_certificate_is_certified_for_its_tasks_alone(rt: HostRuntime) -> Result<(), Fail> {
-    assert_eq!(rt; fault_with(&rt, rt.alloc(), EMPTY_BATCH, EMPTY)?, None);
-    assert_eq!(rt;
-        fault_with(&rt, rt.alloc(), FIVE_CERTIFICATE, FIVE)?,
-        Some(RunFault::Boot(1))
-    );
-    assert_eq!(rt;
-        fault_with(&rt, rt.alloc(), EMPTY_BATCH, FIVE)?,
-        Some(RunFault::Output(1, Some(felt_of(9)), Some(felt_of(10))))
-    );
+    let own = fault_with(&rt, rt.alloc(), EMPTY_BATCH, EMPTY)?;
+    let alone = fault_with(&rt, rt.alloc(), FIVE_CERTIFICATE, FIVE)?;
+    let other = fault_with(&rt, rt.alloc(), EMPTY_BATCH, FIVE)?;
+    assert_eq!(rt; (own, alone), (None, Some(RunFault::Boot(1))));
+    let wanted = RunFault::Output(1, Some(felt_of(9)), Some(felt_of(10)));
+    assert_eq!(rt; other, Some(wanted));
     Ok(())
 }

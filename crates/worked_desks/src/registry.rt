@@ -17,22 +17,47 @@ fn fact(alloc: Global, main: u64, number: u32) -> Result<Fact, AllocError> {
     })
 }
 
-#[test]
-fn a_fact_stands_once_and_in_the_order_of_registration(rt: HostRuntime) -> Result<(), Fail> {
-    let alloc = rt.alloc();
-    let mut registry = Registry::new(alloc);
+// Puts four facts there, of which two are the same.
+fn add_four(alloc: Global, registry: &mut Registry) -> Result<(), AllocError> {
     let mut facts = Vec::new(alloc);
     for (main, number) in [(1, 5), (0, 3), (1, 5), (1, 4)] {
         facts.push(fact(alloc, main, number)?)?;
     }
-    registry.add_all(facts)?;
+    registry.add_all(facts)
+}
 
-    assert!(rt; registry.holds(&fact(alloc, 1, 5)?));
-    assert!(rt; !registry.holds(&fact(alloc, 0, 5)?));
+fn holds(alloc: Global, registry: &Registry, main: u64, number: u32) -> Result<bool, AllocError> {
+    let fact = fact(alloc, main, number)?;
+    Ok(registry.holds(&fact))
+}
+
+// Whether there are two outputs, of 5 and of 4.
+fn are_five_and_four(alloc: Global, found: &[Outputs]) -> Result<bool, AllocError> {
+    let five = outputs(alloc, 5)?;
+    let four = outputs(alloc, 4)?;
+    Ok(match found {
+        [first, second] => *first == five && *second == four,
+        _ => false,
+    })
+}
+
+// Whether (1, 5) and (0, 5) stand, whether the outputs of program 1 are 5 and 4, and how many facts there are.
+fn seen(alloc: Global, registry: &Registry) -> Result<(bool, bool, bool, usize), AllocError> {
+    let first = holds(alloc, registry, 1, 5)?;
+    let other = holds(alloc, registry, 0, 5)?;
     let found = registry.outputs_of(alloc, &program_hash(1, 7, &[]))?;
-    assert_eq!(rt; found.len(), 2);
-    assert!(rt; found[0] == outputs(alloc, 5)?);
-    assert!(rt; found[1] == outputs(alloc, 4)?);
-    assert_eq!(rt; registry.sorted(alloc)?.len(), 3);
+    let in_order = are_five_and_four(alloc, found.as_slice())?;
+    Ok((first, other, in_order, registry.sorted(alloc)?.len()))
+}
+
+#[test]
+fn a_fact_stands_once_and_in_the_order_of_registration(rt: HostRuntime) -> Result<(), Fail> {
+    let (added, found) = {
+        let mut registry = Registry::new(rt.alloc());
+        let added = add_four(rt.alloc(), &mut registry);
+        (added, seen(rt.alloc(), &registry))
+    };
+    added?;
+    assert_eq!(rt; found?, (true, false, true, 3));
     Ok(())
 }

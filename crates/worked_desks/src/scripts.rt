@@ -6,8 +6,7 @@ use desk_core::{Desk, Offer};
 use desk_script::{Line, ScriptKind, ScriptRefusal, read_script, transcript};
 use hex::decode;
 use pie_replay::admit;
-use std::alloc::Global;
-use std::process::Abort;
+use std::alloc::{AllocError, Global};
 use std::test::Fail;
 use worked_vectors::files::FIVE;
 
@@ -21,24 +20,38 @@ fn refusal(alloc: Global, text: &[u8], clients: u32) -> Option<ScriptRefusal> {
     }
 }
 
+// Whether these are the five lines of the script that has one of each kind and an empty offer.
+fn are_the_five(lines: &[Line]) -> bool {
+    match lines {
+        [
+            Line::Submit(1, two),
+            Line::Submit(0, none),
+            Line::Ask(0, fact),
+            Line::Status(1, 4_294_967_295),
+            Line::Settle(0),
+        ] => {
+            two.as_slice() == [0, 255].as_slice()
+                && none.is_empty()
+                && fact.outputs.as_slice().len() == 1
+        }
+        _ => false,
+    }
+}
+
+// Whether these bytes are read as those lines.
+fn reads_the_five(alloc: Global, text: &[u8]) -> bool {
+    match read_script(alloc, text, 2) {
+        Ok(script) => are_the_five(script.lines.as_slice()),
+        Err(_) => false,
+    }
+}
+
 #[test]
 fn each_kind_of_line_is_read(rt: HostRuntime) -> Result<(), Fail> {
-    let alloc = rt.alloc();
-    let text = format!(in alloc;
+    let text = format!(in rt.alloc();
         "submit 1 00fF\nsubmit 0 \nask 0 {FIVE_HASH} 5\nstatus 1 4294967295\nsettle 0\n"
     )?;
-    let script = read_script(alloc, text.as_bytes(), 2)?;
-
-    assert_eq!(rt; script.lines.len(), 5);
-    assert!(rt;
-        matches!(&script.lines[0], Line::Submit(1, bytes) if bytes.as_slice() == [0, 255].as_slice())
-    );
-    assert!(rt; matches!(&script.lines[1], Line::Submit(0, bytes) if bytes.is_empty()));
-    assert!(rt;
-        matches!(&script.lines[2], Line::Ask(0, fact) if fact.outputs.as_slice().len() == 1)
-    );
-    assert!(rt; matches!(&script.lines[3], Line::Status(1, 4_294_967_295)));
-    assert!(rt; matches!(&script.lines[4], Line::Settle(0)));
+    assert!(rt; reads_the_five(rt.alloc(), text.as_bytes()));
     Ok(())
 }
 
@@ -70,27 +83,41 @@ fn the_first_bad_line_is_named_with_its_first_fault(rt: HostRuntime) -> Result<(
 fn an_empty_script_is_taken_and_a_new_desk_ends_at_once(rt: HostRuntime) -> Result<(), Fail> {
     let alloc = rt.alloc();
     assert!(rt; read_script(alloc, b"", 1)?.lines.is_empty());
-    let desk = Desk::new(alloc, 1)?;
-    assert_eq!(rt; transcript(alloc, &desk)?.as_slice(), b"end\n".as_slice());
+    let told = {
+        let desk = Desk::new(alloc, 1)?;
+        transcript(alloc, &desk)
+    };
+    assert_eq!(rt; told?.as_slice(), b"end\n".as_slice());
     Ok(())
+}
+
+// The client hands it in, with the pass of its number.
+fn hand_in(alloc: Global, desk: &mut Desk, client: u32, offer: Offer) -> Result<(), AllocError> {
+    if client < desk.clients() {
+        let _ = desk.submit(alloc, client, client, offer)?;
+        return Ok(());
+    }
+    Err(AllocError)
+}
+
+// What is told of a desk to which client 0 hands in the program that writes 5, and client 1 a file that breaks off.
+fn told_of_two(alloc: Global, desk: &mut Desk) -> Result<Vec<u8>, Fail> {
+    let checked = admit(alloc, decode(alloc, FIVE)?.as_slice())?;
+    hand_in(alloc, desk, 0, Offer::Accepted(checked))?;
+    let refusal = Refusal::Read(ReadRefusal::Truncated(359));
+    hand_in(alloc, desk, 1, Offer::Refused(refusal))?;
+    let _ = desk.seal(alloc, 0)?;
+    Ok(transcript(alloc, desk)?)
 }
 
 #[test]
 fn a_transcript_tells_of_offers_and_batches(rt: HostRuntime) -> Result<(), Fail> {
-    let alloc = rt.alloc();
-    let mut desk = Desk::new(alloc, 2)?;
-    let checked = admit(alloc, decode(alloc, FIVE)?.as_slice())?;
-    desk.submit(alloc, 0, 0, Offer::Accepted(checked))?;
-    desk.submit(
-        alloc,
-        1,
-        1,
-        Offer::Refused(Refusal::Read(ReadRefusal::Truncated(359))),
-    )?;
-    desk.seal(alloc, 0)?;
-
-    let told = transcript(alloc, &desk)?;
-    let expected = format!(in alloc;
+    let told = {
+        let mut desk = Desk::new(rt.alloc(), 2)?;
+        told_of_two(rt.alloc(), &mut desk)
+    };
+    let told = told?;
+    let expected = format!(in rt.alloc();
         "client 0 submit admitted 0 program {FIVE_HASH} outputs 5\nclient 1 submit refused 3 359\nbatch 0 steps 6 jobs 0.0\nend\n"
     )?;
     assert_eq!(rt; told.as_slice(), expected.as_bytes());
