@@ -1,9 +1,20 @@
 -- Where a text is cut.
-use Rattle.std.proofs.Common.{◌≡◌, ℕ, ◌+◌, ◌-◌, ◌==◌, ◌≤◌, ◌<◌, Bool, true, false, not, List, [], ◌∷◌, length, take, drop, cond, Some, None, refl, ap, sym, subst, ◌∙◌, arith}
+use Rattle.std.proofs.Common.{◌≡◌, ℕ, ◌+◌, ◌-◌, ◌==◌, ◌≤◌, ◌<◌, Bool, true, false, not, List, [], ◌∷◌, length, take, drop, get_or, cond, Option, Some, None, unwrap_or, refl, ap, sym, subst, ◌∙◌, arith}
 use Rattle.std.proofs.lemmas.List.{take_rest}
+use Rattle.std.proofs.lemmas.List.Sums.{position_or_len_is}
 use Rattle.std.proofs.lemmas.List.Splits.{length-slice_split, slice_split_first}
 use Rattle.desk_script.specs.Working.Reading.{ask_fields, one_in}
+use Rattle.memchr.specs.Find.{IsFirstByte, is_byte}
 use Rattle.std.specs.List.{onto_first, position_or_len, slice_split}
+
+fails : (b : Bool) → ¬ (b ≡ true) → b ≡ false
+fails true not_so = absurd (not_so refl)
+fails false not_so = refl
+
+-- what a search finds, and else the length, is where the first such byte stands
+pub found_at : (c : ℕ) (xs : List ℕ) (r : Option ℕ) → IsFirstByte (is_byte c) xs r → unwrap_or r (length xs) ≡ position_or_len (λ x. x == c) xs
+found_at c xs None is = sym (position_or_len_is (λ x. x == c) xs (length xs) 0 (omega arith) (λ k inside. fails (is_byte c (get_or xs k 0)) (is k (omega arith) inside)) (λ inside. absurd (omega arith)))
+found_at c xs (Some i) is = sym (position_or_len_is (λ x. x == c) xs i 0 (omega (arith, is.0.high)) (λ k before. fails (is_byte c (get_or xs k 0)) (is.0.before k (omega arith) before)) (λ inside. is.1))
 
 uncut_by : (b : Bool) (x n : ℕ) (xs : List ℕ) (parts : List (List ℕ)) → length (x ∷ xs) ≤ cond (not b) (1 + n) 0 → (length xs ≤ n → parts ≡ xs ∷ []) → cond b ([] ∷ parts) (onto_first x parts) ≡ (x ∷ xs) ∷ []
 uncut_by true x n xs parts long rest = absurd (omega arith)

@@ -3,6 +3,8 @@ ghost use Rattle.std.specs.List.{position_or_len, slice_split};
 ghost use Rattle.desk_script.specs.Working.Reading.{ask_fields as ask_fields_in, one_in, parts_left, two_in};
 ghost use Rattle.desk_script.specs.Working.Views.{ask_view};
 
+use memchr::memchr;
+
 pub(crate) const SPACE: u8 = b' ';
 
 pub(crate) const LINE_FEED: u8 = b'\n';
@@ -23,12 +25,7 @@ pub(crate) fn cut(text: &[u8], separator: u8) -> (&[u8], Option<&[u8]>)
 fn first_at(text: &[u8], byte: u8) -> usize
     ensures { result ≡ position_or_len (λ c. c == byte) text.now }
 {
-    for at in 0..text.len() {
-        if text[at] == byte {
-            return at;
-        }
-    }
-    text.len()
+    memchr(byte, text).unwrap_or(text.len())
 }
 
 /// The field that is left, if just one is.
