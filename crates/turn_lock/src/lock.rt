@@ -14,11 +14,14 @@ use atomic_table::{Seat, Table};
 use std::alloc::{AllocError, Global};
 use std::marker::Model;
 use std::snapshot::Snapshot;
+use std::sync::atomic::AtomicU64;
 
 /// A value that one thread at a time changes, in the order of the tickets that they drew.
 #[derive(Drop)]
 pub struct TurnLock<V: Kept> {
     pub(crate) table: Table<Option<V>, View<V::Note>, Opening<V>, Order, Global>,
+    // How many threads sleep till another ticket is served. No clause speaks of it.
+    pub(crate) sleepers: AtomicU64,
 }
 
 impl<V: Kept> Model for TurnLock<V> {
@@ -55,7 +58,10 @@ impl<V: Kept + Drop> TurnLock<V> {
         let Ok((table, first)) = Table::new(alloc, &[turns, turns], slots, &opening) else {
             return Err(AllocError);
         };
-        let lock = TurnLock { table };
+        let lock = TurnLock {
+            table,
+            sleepers: AtomicU64::new(0),
+        };
         let list = lock.deal(alloc, first, passes)?;
         Ok((lock, list))
     }
@@ -109,7 +115,7 @@ impl<V: Kept> TurnLock<V> {
         ensures others { All (λ e. IsNumberOf passes.items e.0) (V.journal result) }
     {
         let all = self.gather(passes);
-        let TurnLock { table } = self;
+        let TurnLock { table, sleepers: _ } = self;
         let mut closed = table.close_with(all);
         let slot = closed.take(0);
         closed.free();

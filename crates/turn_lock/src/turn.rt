@@ -14,6 +14,7 @@ use crate::view::View;
 use atomic_table::Seat;
 use std::hint::spin_loop;
 use std::sync::Wait;
+use std::sync::atomic::Ordering;
 use std::thread::yield_now;
 
 /// How often a waiting pass looks at the word that is served before it sleeps.
@@ -62,7 +63,14 @@ impl<V: Kept> TurnLock<V> {
         ensures ended { (value : V) (added : List (ℕ × V.Note)) → seat.old.me.1 ≡ (0, Some value) ∷ [] → V.journal value ≡ seat.old.me.0.seen ++ added → seat.new.me ≡ (raised seat.old.me.0 (V.journal value) added, []) }
     {
         self.table.shared.fetch_add::<Raise>(seat, 1, 1);
-        self.table.shared.wake_all(1);
+        self.wake();
+    }
+
+    // Wakes those who sleep, if anybody does.
+    fn wake(&self) {
+        if self.sleepers.load(Ordering::SeqCst) != 0 {
+            self.table.shared.wake_all(1);
+        }
     }
 
     // Waits until the ticket is served. The slot is then the seat's.
@@ -82,12 +90,15 @@ impl<V: Kept> TurnLock<V> {
         unreachable!()
     }
 
-    // Sleeps until another ticket than now is served, unless this one is. A change of the word after it was read, and before the sleep
-    // begins, is seen by its low half.
+    // Sleeps until another ticket than now is served, unless this one is. Who serves one sees that there is a sleeper, or the sleeper
+    // sees that the word has changed.
     fn sleep<R: Wait>(&self, rt: &R, ticket: u64) {
         let served = self.table.shared.peek(1);
         if served != ticket {
-            self.table.shared.park(rt, 1, (served & LOW_HALF) as u32);
+            self.sleepers.fetch_add(1, Ordering::SeqCst);
+            let half = (served & LOW_HALF) as u32;
+            self.table.shared.park(rt, 1, half);
+            self.sleepers.fetch_sub(1, Ordering::SeqCst);
         }
     }
 
