@@ -1,6 +1,7 @@
-use crate::asking::{answer, answer_in_pieces};
+use crate::asking::{answer_in_pieces, expect_answer, file_and_zero, file_cut};
 use hex::decode;
 use std::alloc::Global;
+use std::process::Abort;
 use std::test::Fail;
 use std::thread::Threads;
 use worked_vectors::certificates::{
@@ -31,18 +32,13 @@ fn a_placed_run_is_its_certificate(rt: HostRuntime) -> Result<(), Fail> {
         (RANGE_7, RANGE_CERTIFICATE),
         (HASH0, HASH_CERTIFICATE),
     ] {
-        let found = answer(&rt, "place", decode(rt.alloc(), digits)?)?;
-        assert_eq!(rt; found.0, 0);
-        assert_eq!(rt;
-            found.1.as_slice(),
-            decode(rt.alloc(), certificate)?.as_slice()
-        );
+        let placed = decode(rt.alloc(), certificate)?;
+        let file = decode(rt.alloc(), digits)?;
+        expect_answer(&rt, "place", file, 0, placed.as_slice())?;
     }
-    for (digits, line) in [(ADDR, "refused 26 0 9\n"), ("", "refused 3 0\n")] {
-        let refused = answer(&rt, "place", decode(rt.alloc(), digits)?)?;
-        assert_eq!(rt; refused.0, 1);
-        assert_eq!(rt; refused.1.as_slice(), line.as_bytes());
-    }
+    let addr = decode(rt.alloc(), ADDR)?;
+    expect_answer(&rt, "place", addr, 1, b"refused 26 0 9\n")?;
+    expect_answer(&rt, "place", Vec::new(rt.alloc()), 1, b"refused 3 0\n")?;
     Ok(())
 }
 
@@ -59,11 +55,21 @@ fn certificates_have_their_answers(rt: HostRuntime) -> Result<(), Fail> {
         (SILENT_CERTIFICATE, 1, "refused run 7 0 - -\n"),
         ("", 1, "refused certificate 2 0\n"),
     ] {
-        let found = answer(&rt, "check", decode(rt.alloc(), digits)?)?;
-        assert_eq!(rt; found.0, status, "{text}");
-        assert_eq!(rt; found.1.as_slice(), text.as_bytes(), "{text}");
+        let bytes = decode(rt.alloc(), digits)?;
+        expect_answer(&rt, "check", bytes, status, text.as_bytes())?;
     }
     Ok(())
+}
+
+// A certificate with other bytes at these places is refused so.
+fn expect_refused(
+    rt: &(impl Threads + Sync + AllocGlobal + Abort),
+    digits: &str,
+    changes: &[(usize, u8)],
+    text: &str,
+) -> Result<(), Fail> {
+    let bytes = changed(rt.alloc(), digits, changes)?;
+    expect_answer(rt, "check", bytes, 1, text.as_bytes())
 }
 
 #[test]
@@ -80,27 +86,24 @@ fn the_first_fault_is_named(rt: HostRuntime) -> Result<(), Fail> {
         (452, 16, "refused run 6 2 11\n"),
         (74, 14, "refused run 6 0 2\n"),
     ] {
-        let found = answer(
-            &rt,
-            "check",
-            changed(rt.alloc(), FIVE_CERTIFICATE, &[(at, byte)])?,
-        )?;
-        assert_eq!(rt; found.0, 1, "{text}");
-        assert_eq!(rt; found.1.as_slice(), text.as_bytes(), "{text}");
+        expect_refused(&rt, FIVE_CERTIFICATE, &[(at, byte)], text)?;
     }
-    let five = decode(rt.alloc(), FIVE_CERTIFICATE)?;
-    let shorter = five.get(..524).unwrap_or(&[]).to_vec(rt.alloc())?;
-    assert_eq!(rt;
-        answer(&rt, "check", shorter)?.1.as_slice(),
-        b"refused certificate 2 524\n".as_slice()
-    );
-    let mut longer = five;
-    longer.push(0)?;
-    assert_eq!(rt;
-        answer(&rt, "check", longer)?.1.as_slice(),
-        b"refused certificate 5 1\n".as_slice()
-    );
+    let shorter = file_cut(rt.alloc(), FIVE_CERTIFICATE, 524)?;
+    expect_answer(&rt, "check", shorter, 1, b"refused certificate 2 524\n")?;
+    let longer = file_and_zero(rt.alloc(), FIVE_CERTIFICATE)?;
+    expect_answer(&rt, "check", longer, 1, b"refused certificate 5 1\n")?;
     Ok(())
+}
+
+// The answer to a certificate with other bytes at these places and with more behind it, which comes byte by byte.
+fn answer_by_bytes(
+    rt: &(impl Threads + Sync + AllocGlobal),
+    changes: &[(usize, u8)],
+    more: &[u8],
+) -> Result<Vec<u8>, Fail> {
+    let mut bytes = changed(rt.alloc(), FIVE_CERTIFICATE, changes)?;
+    bytes.extend_from_slice(more)?;
+    Ok(answer_in_pieces(rt, "check", bytes, 1)?.1)
 }
 
 #[test]
@@ -113,49 +116,37 @@ fn bytes_that_come_one_by_one_have_the_same_answer(rt: HostRuntime) -> Result<()
         (&[], &[0], "refused certificate 5 1\n"),
     ];
     for (changes, more, text) in rows {
-        let mut bytes = changed(rt.alloc(), FIVE_CERTIFICATE, changes)?;
-        bytes.extend_from_slice(more)?;
-        let found = answer_in_pieces(&rt, "check", bytes, 1)?;
-        assert_eq!(rt; found.1.as_slice(), text.as_bytes(), "{text}");
+        let found = answer_by_bytes(&rt, changes, more)?;
+        assert_eq!(rt; found.as_slice(), text.as_bytes());
     }
     Ok(())
 }
 
-// The line that answers a certificate with other bytes at these places.
-fn line(
-    rt: &(impl Threads + Sync + AllocGlobal),
-    digits: &str,
-    changes: &[(usize, u8)],
-) -> Result<Vec<u8>, Fail> {
-    let bytes = changed(rt.alloc(), digits, changes)?;
-    Ok(answer(rt, "check", bytes)?.1)
-}
-
 #[test]
 fn a_range_cell_is_below_two_to_the_32(rt: HostRuntime) -> Result<(), Fail> {
-    let over = line(&rt, RANGE_CERTIFICATE, &[(348, 1), (352, 0)])?;
-    assert_eq!(rt; over.as_slice(), b"refused run 4 0\n".as_slice());
-    Ok(())
+    let changes = [(348, 1), (352, 0)];
+    expect_refused(&rt, RANGE_CERTIFICATE, &changes, "refused run 4 0\n")
 }
 
-// The last byte of the hash span's stop is at 56, and that of the cell with the stop pointer at 272.
+// The last byte of the hash span's stop is at 56, and that of the cell with the stop pointer at 272. The first row has a wrong
+// word, the second a span that is cut, the third one address more, and the last an instance that is absent.
 #[test]
 fn a_hash_span_has_whole_instances(rt: HostRuntime) -> Result<(), Fail> {
-    let wrong_word = line(&rt, HASH_CERTIFICATE, &[(480, 0)])?;
-    assert_eq!(rt; wrong_word.as_slice(), b"refused run 5 0\n".as_slice());
-    let cut = line(&rt, HASH_CERTIFICATE, &[(56, 37), (272, 37)])?;
-    assert_eq!(rt; cut.as_slice(), b"refused run 5 0\n".as_slice());
-    let one_more = line(&rt, HASH_CERTIFICATE, &[(56, 39), (272, 39)])?;
-    assert_eq!(rt; one_more.as_slice(), b"refused run 5 1\n".as_slice());
-    let absent = line(&rt, HASH_CERTIFICATE, &[(56, 58), (272, 58)])?;
-    assert_eq!(rt; absent.as_slice(), b"refused run 5 1\n".as_slice());
+    let rows: [(&[(usize, u8)], &str); 4] = [
+        (&[(480, 0)], "refused run 5 0\n"),
+        (&[(56, 37), (272, 37)], "refused run 5 0\n"),
+        (&[(56, 39), (272, 39)], "refused run 5 1\n"),
+        (&[(56, 58), (272, 58)], "refused run 5 1\n"),
+    ];
+    for (changes, text) in rows {
+        expect_refused(&rt, HASH_CERTIFICATE, changes, text)?;
+    }
     Ok(())
 }
 
 // The range span has one address, without a cell, and the instance a wrong word.
 #[test]
 fn the_range_span_comes_before_the_hash_span(rt: HostRuntime) -> Result<(), Fail> {
-    let both = line(&rt, HASH_CERTIFICATE, &[(40, 18), (256, 18), (480, 0)])?;
-    assert_eq!(rt; both.as_slice(), b"refused run 4 0\n".as_slice());
-    Ok(())
+    let changes = [(40, 18), (256, 18), (480, 0)];
+    expect_refused(&rt, HASH_CERTIFICATE, &changes, "refused run 4 0\n")
 }

@@ -1,4 +1,4 @@
-use crate::asking::answer;
+use crate::asking::expect_answer;
 use hex::decode;
 use std::test::Fail;
 use worked_vectors::files::{ADDR, FIVE};
@@ -14,9 +14,8 @@ fn the_code_of_an_admitted_pie_is_listed(rt: HostRuntime) -> Result<(), Fail> {
         (ADDR, 1, "refused 26 0 9\n"),
         ("", 1, "refused 3 0\n"),
     ] {
-        let listed = answer(&rt, "list", decode(rt.alloc(), digits)?)?;
-        assert_eq!(rt; listed.0, status, "{text}");
-        assert_eq!(rt; listed.1.as_slice(), text.as_bytes(), "{text}");
+        let file = decode(rt.alloc(), digits)?;
+        expect_answer(&rt, "list", file, status, text.as_bytes())?;
     }
     Ok(())
 }

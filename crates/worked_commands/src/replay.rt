@@ -1,4 +1,4 @@
-use crate::asking::answer;
+use crate::asking::{answer, file_and_zero, file_cut};
 use hex::decode;
 use std::alloc::Global;
 use std::process::Abort;
@@ -149,11 +149,9 @@ fn changed_files_have_their_first_refusal(rt: HostRuntime) -> Result<(), Fail> {
 
 #[test]
 fn a_file_ends_with_its_last_cell(rt: HostRuntime) -> Result<(), Fail> {
-    let five = decode(rt.alloc(), FIVE)?;
-    let shorter = five.get(..359).unwrap_or(&[]).to_vec(rt.alloc())?;
+    let shorter = file_cut(rt.alloc(), FIVE, 359)?;
     expect_line(&rt, &answer(&rt, "replay", shorter)?, "refused 3 359\n");
-    let mut longer = five;
-    longer.push(0)?;
+    let longer = file_and_zero(rt.alloc(), FIVE)?;
     expect_line(&rt, &answer(&rt, "replay", longer)?, "refused 11 1\n");
     Ok(())
 }

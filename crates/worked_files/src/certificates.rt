@@ -4,6 +4,7 @@
 use cairo_model::{Cert, End, FieldState, Kind, felt_of};
 use cert_format::{CertReader, CertRefusal, read_cert, read_pieces, write_cert};
 use std::alloc::{AllocError, Global};
+use std::process::Abort;
 use std::test::Fail;
 
 const FIVE: [u8; 525] = [
@@ -49,12 +50,20 @@ fn refusal(alloc: Global, bytes: &[u8]) -> Option<End<CertRefusal>> {
     }
 }
 
-fn fed_byte_by_byte(alloc: Global, bytes: &[u8]) -> Result<Cert, End<CertRefusal>> {
-    let mut reader = CertReader::new(alloc);
+fn feed_bytes(reader: &mut CertReader, bytes: &[u8]) -> Result<(), AllocError> {
     for byte in bytes {
         reader.feed([*byte].as_slice())?;
     }
-    reader.finish()
+    Ok(())
+}
+
+// The refusal of the bytes, which come one by one.
+fn fed_refusal(alloc: Global, bytes: &[u8]) -> Option<End<CertRefusal>> {
+    let mut reader = CertReader::new(alloc);
+    match feed_bytes(&mut reader, bytes) {
+        Ok(()) => reader.finish().err(),
+        Err(AllocError) => Some(End::OutOfMemory),
+    }
 }
 
 fn byte_in(changes: &[(usize, u8)], place: usize, byte: u8) -> u8 {
@@ -74,12 +83,8 @@ fn changed(alloc: Global, changes: &[(usize, u8)]) -> Result<Vec<u8>, AllocError
     Ok(bytes)
 }
 
-#[test]
-fn reads_the_certificate_of_a_program_that_writes_five(rt: HostRuntime) -> Result<(), Fail> {
-    let Ok(cert) = read_cert(rt.alloc(), FIVE.as_slice()) else {
-        assert!(rt; false);
-        return Ok(());
-    };
+// The certificate is that of the program that writes 5.
+fn expect_five(rt: &impl Abort, cert: &Cert) {
     assert_eq!(rt; cert.kind, Kind::Alone);
     for (span, start, stop) in [
         (cert.output, 20, 21),
@@ -88,7 +93,7 @@ fn reads_the_certificate_of_a_program_that_writes_five(rt: HostRuntime) -> Resul
     ] {
         assert_eq!(rt; (span.start, span.stop), (felt_of(start), felt_of(stop)));
     }
-    assert_eq!(rt; cert.tasks.len(), 0);
+    assert_eq!(rt; (cert.tasks.len(), cert.states.len()), (0, 7));
     assert_eq!(rt; cert.cells.get(felt_of(14)), Some(felt_of(25)));
     assert_eq!(rt; cert.cells.get(felt_of(9)), None);
     let last = FieldState {
@@ -96,8 +101,19 @@ fn reads_the_certificate_of_a_program_that_writes_five(rt: HostRuntime) -> Resul
         ap: felt_of(19),
         fp: felt_of(24),
     };
-    assert_eq!(rt; cert.states.len(), 7);
     assert_eq!(rt; cert.states.last(), Some(&last));
+}
+
+#[test]
+fn reads_the_certificate_of_a_program_that_writes_five(rt: HostRuntime) -> Result<(), Fail> {
+    let is_read = match read_cert(rt.alloc(), FIVE.as_slice()) {
+        Ok(cert) => {
+            expect_five(&rt, &cert);
+            true
+        }
+        Err(_) => false,
+    };
+    assert!(rt; is_read);
     Ok(())
 }
 
@@ -109,6 +125,15 @@ fn each_beginning_of_a_certificate_is_truncated(rt: HostRuntime) -> Result<(), F
         assert_eq!(rt; refusal(rt.alloc(), bytes), Some(End::Refused(truncated)));
     }
     Ok(())
+}
+
+// The refusal of the certificate with other bytes at these places.
+fn refusal_with(
+    alloc: Global,
+    changes: &[(usize, u8)],
+) -> Result<Option<End<CertRefusal>>, AllocError> {
+    let bytes = changed(alloc, changes)?;
+    Ok(refusal(alloc, bytes.as_slice()))
 }
 
 #[test]
@@ -143,73 +168,85 @@ fn the_first_refusal_is_answered(rt: HostRuntime) -> Result<(), Fail> {
         (&[(356, 6)], CertRefusal::Trailing(24)),
     ];
     for (changes, answer) in rows {
-        let bytes = changed(rt.alloc(), changes)?;
-        assert_eq!(rt;
-            refusal(rt.alloc(), bytes.as_slice()),
-            Some(End::Refused(answer))
-        );
+        let found = refusal_with(rt.alloc(), changes)?;
+        assert_eq!(rt; found, Some(End::Refused(answer)));
     }
     Ok(())
 }
 
-// A certificate of a batch with one task, whose two bases are 1 and the largest number.
-fn batch(alloc: Global) -> Result<Vec<u8>, AllocError> {
+// Turns the certificate into one of a batch with one task, whose two bases are 1 and the largest number.
+fn put_task(bytes: &mut Vec<u8>) -> Result<(), AllocError> {
     let (_, back) = FIVE.split_at(61);
-    let mut bytes = changed(alloc, &[(8, 1)])?;
     bytes.truncate(57);
     bytes.extend_from_slice(&[0, 0, 0, 1, 0, 0, 0, 3, 0, 0, 0, 2])?;
     bytes.extend_from_slice(&[0, 0, 0, 0, 0, 0, 0, 1])?;
     bytes.extend_from_slice(&[0xff, 0xff, 0xff, 0xff, 0, 0, 0, 0])?;
-    bytes.extend_from_slice(back)?;
+    bytes.extend_from_slice(back)
+}
+
+fn batch(alloc: Global) -> Result<Vec<u8>, AllocError> {
+    let mut bytes = changed(alloc, &[(8, 1)])?;
+    put_task(&mut bytes)?;
     Ok(bytes)
 }
 
-fn written_back(alloc: Global, bytes: &[u8]) -> Result<Option<Vec<u8>>, AllocError> {
-    match read_cert(alloc, bytes) {
-        Ok(cert) => Ok(Some(write_cert(alloc, &cert)?)),
-        Err(_) => Ok(None),
-    }
+fn is_written_back(alloc: Global, bytes: &[u8]) -> Result<bool, AllocError> {
+    let written = match read_cert(alloc, bytes) {
+        Ok(cert) => write_cert(alloc, &cert),
+        Err(_) => return Ok(false),
+    };
+    Ok(written?.as_slice() == bytes)
 }
 
 #[test]
 fn a_certificate_is_written_back(rt: HostRuntime) -> Result<(), Fail> {
-    let five = FIVE.as_slice().to_vec(rt.alloc())?;
+    let alone = is_written_back(rt.alloc(), FIVE.as_slice())?;
     let batch = batch(rt.alloc())?;
-    assert_eq!(rt; written_back(rt.alloc(), five.as_slice())?, Some(five));
-    assert_eq!(rt; written_back(rt.alloc(), batch.as_slice())?, Some(batch));
+    let batched = is_written_back(rt.alloc(), batch.as_slice())?;
+    assert_eq!(rt; (alone, batched), (true, true));
     Ok(())
+}
+
+// The refusals of the certificate with other bytes at these places and with these behind it, as it comes at once and byte by byte.
+fn both_refusals(
+    alloc: Global,
+    changes: &[(usize, u8)],
+    more: &[u8],
+) -> Result<[Option<End<CertRefusal>>; 2], AllocError> {
+    let mut bytes = changed(alloc, changes)?;
+    bytes.extend_from_slice(more)?;
+    Ok([
+        refusal(alloc, bytes.as_slice()),
+        fed_refusal(alloc, bytes.as_slice()),
+    ])
 }
 
 #[test]
 fn the_answer_is_the_same_byte_by_byte(rt: HostRuntime) -> Result<(), Fail> {
     let many: &[(usize, u8)] = &[(61, 0xff), (62, 0xff), (63, 0xff), (64, 0xff)];
-    let rows: [(&[(usize, u8)], bool, Option<CertRefusal>); 4] = [
-        (&[], false, None),
-        (many, false, Some(CertRefusal::Truncated(525))),
-        (&[(8, 2)], false, Some(CertRefusal::BadNumber(8))),
-        (&[], true, Some(CertRefusal::Trailing(1))),
+    let rows: [(&[(usize, u8)], &[u8], Option<CertRefusal>); 4] = [
+        (&[], &[], None),
+        (many, &[], Some(CertRefusal::Truncated(525))),
+        (&[(8, 2)], &[], Some(CertRefusal::BadNumber(8))),
+        (&[], &[0], Some(CertRefusal::Trailing(1))),
     ];
-    for (changes, one_more, answer) in rows {
-        let mut bytes = changed(rt.alloc(), changes)?;
-        if one_more {
-            bytes.push(0)?;
-        }
+    for (changes, more, answer) in rows {
+        let found = both_refusals(rt.alloc(), changes, more)?;
         let wanted = answer.map(End::Refused);
-        assert_eq!(rt; refusal(rt.alloc(), bytes.as_slice()), wanted);
-        assert_eq!(rt;
-            fed_byte_by_byte(rt.alloc(), bytes.as_slice()).err(),
-            wanted
-        );
+        assert_eq!(rt; found, [wanted, wanted]);
     }
     Ok(())
+}
+
+fn are_read(alloc: Global, first: &[u8], second: &[u8]) -> bool {
+    read_pieces(alloc, [first, second].as_slice()).is_ok()
 }
 
 #[test]
 fn a_certificate_is_read_however_it_is_cut(rt: HostRuntime) -> Result<(), Fail> {
     for cut in 0..526 {
         let (first, second) = FIVE.split_at(cut);
-        let read = read_pieces(rt.alloc(), [first, second].as_slice());
-        assert!(rt; read.is_ok());
+        assert!(rt; are_read(rt.alloc(), first, second));
     }
     Ok(())
 }

@@ -1,12 +1,13 @@
 //! The run of a program that writes 5, placed in the field's memory: its cells and states are a worked example.
 
-ghost use Rattle.std.specs.Prelude.{map, OnOk};
+ghost use Rattle.std.specs.Prelude.{◌<◌, map, OnOk};
 ghost use Rattle.cairo_model.specs.Machine.FieldMemories.{AddressesRise, field_cell};
 
 use cairo_model::{Cells, FieldState, StepFault, felt_of};
 use cairo_step::{row_holds, step};
 use goldi_field::Felt;
 use std::alloc::{AllocError, Global};
+use std::process::Abort;
 use std::test::Fail;
 
 const CELLS: [(u32, u64); 18] = [
@@ -78,40 +79,80 @@ fn state_at(index: usize) -> FieldState {
     }
 }
 
+// Whether there is a row from the first state to the second, and to each of three beside it.
+fn rows_to(memory: &Cells, from: FieldState, to: FieldState) -> [bool; 4] {
+    let FieldState { pc, ap, fp } = to;
+    let (next_pc, next_ap, next_fp) = (pc.add(Felt::ONE), ap.add(Felt::ONE), fp.add(Felt::ONE));
+    [
+        row_holds(memory, from, to),
+        row_holds(
+            memory,
+            from,
+            FieldState {
+                pc: next_pc,
+                ap,
+                fp,
+            },
+        ),
+        row_holds(
+            memory,
+            from,
+            FieldState {
+                pc,
+                ap: next_ap,
+                fp,
+            },
+        ),
+        row_holds(
+            memory,
+            from,
+            FieldState {
+                pc,
+                ap,
+                fp: next_fp,
+            },
+        ),
+    ]
+}
+
+// The state at this index steps to the next, and has a row to it alone.
+fn expect_step(rt: &impl Abort, memory: &Cells, index: usize)
+    requires { index < 6 }
+{
+    let next = state_at(index + 1);
+    let stepped = step(memory, state_at(index));
+    assert_eq!(rt; stepped, Ok(next), "at {index}");
+    let rows = rows_to(memory, state_at(index), next);
+    assert_eq!(rt; rows, [true, false, false, false], "at {index}");
+}
+
 #[test]
 fn each_state_of_a_placed_run_steps_to_the_next(rt: HostRuntime) -> Result<(), Fail> {
-    let memory = memory_of(rt.alloc(), &CELLS)?;
-    for index in 0..6 {
-        let next = state_at(index + 1);
-        let FieldState { pc, ap, fp } = next;
-        assert_eq!(rt; step(&memory, state_at(index)), Ok(next), "at {index}");
-        assert!(rt; row_holds(&memory, state_at(index), next), "at {index}");
-        for miss in [
-            FieldState {
-                pc: pc.add(Felt::ONE),
-                ap,
-                fp,
-            },
-            FieldState {
-                pc,
-                ap: ap.add(Felt::ONE),
-                fp,
-            },
-            FieldState {
-                pc,
-                ap,
-                fp: fp.add(Felt::ONE),
-            },
-        ] {
-            assert!(rt;
-                !row_holds(&memory, state_at(index), miss),
-                "beside {index}"
-            );
+    let (end, holds) = {
+        let memory = memory_of(rt.alloc(), &CELLS)?;
+        for index in 0..6 {
+            expect_step(&rt, &memory, index);
         }
-    }
-    assert_eq!(rt; step(&memory, state_at(6)), Err(StepFault::Fetch));
-    assert!(rt; !row_holds(&memory, state_at(6), state(26, 19, 24)));
+        (
+            step(&memory, state_at(6)),
+            row_holds(&memory, state_at(6), state(26, 19, 24)),
+        )
+    };
+    assert_eq!(rt; end, Err(StepFault::Fetch));
+    assert!(rt; !holds);
     Ok(())
+}
+
+// Whether there is a row over these cells from one state to this one.
+fn has_row(
+    alloc: Global,
+    cells: &[(u32, u64)],
+    pc: u32,
+    ap: u32,
+    fp: u32,
+) -> Result<bool, AllocError> {
+    let memory = memory_of(alloc, cells)?;
+    Ok(row_holds(&memory, state(1, 20, 15), state(pc, ap, fp)))
 }
 
 #[test]
@@ -131,12 +172,8 @@ fn rows_of_conditional_jumps_and_calls(rt: HostRuntime) -> Result<(), Fail> {
         (calls, (8, 22, 15), false),
         (strays, (8, 22, 22), false),
     ] {
-        let memory = memory_of(rt.alloc(), &cells)?;
-        assert_eq!(rt;
-            row_holds(&memory, state(1, 20, 15), state(pc, ap, fp)),
-            holds,
-            "at {pc}"
-        );
+        let found = has_row(rt.alloc(), &cells, pc, ap, fp)?;
+        assert_eq!(rt; found, holds, "at {pc}");
     }
     Ok(())
 }
