@@ -2,6 +2,8 @@
 #![tactic(auto)]
 
 #[cfg(test)]
+mod asker;
+#[cfg(test)]
 mod desks;
 #[cfg(test)]
 mod gates;

@@ -1,14 +1,12 @@
 ghost use Rattle.std.specs.Prelude.{◌≡◌};
 ghost use Rattle.session_desk.specs.SeenDesks.{IsIdlePass};
 
-use crate::passes::{desk_for_three, offered};
+use crate::passes::{desk_for_three, offered, task};
 use batch_runner::{BootMaker, Maker};
 use batch_workers::{Bell, OpenGate, WorkEnd, work};
 use boot_program::{Parcel, RunFault};
 use cairo_model::{Cert, felt_of};
 use desk_core::{JobPhase, Reply};
-use hex::decode;
-use pie_replay::admit;
 use session_desk::{Held, SharedDesk};
 use std::alloc::{AllocError, Global};
 use std::sync::Wait;
@@ -78,7 +76,7 @@ fn an_honest_makers_batch_is_registered(rt: HostRuntime) -> Result<(), Fail> {
 
 // The parcel of the program that does nothing.
 fn empty_parcel(alloc: Global) -> Result<Parcel, Fail> {
-    let empty = admit(alloc, decode(alloc, EMPTY)?.as_slice())?;
+    let empty = task(alloc, EMPTY)?;
     let _empty = empty.states();
     let mut tasks = Vec::new(alloc);
     tasks.push(empty)?;
