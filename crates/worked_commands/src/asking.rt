@@ -105,7 +105,7 @@ pub fn asked(
     Ok((status.number(), text))
 }
 
-/// The answer is of this status and this text.
+/// What was found is this status and this text.
 pub fn expect_found(rt: &impl Abort, found: &(u8, Vec<u8>), status: u8, text: &[u8]) {
     assert_eq!(rt; (found.0, found.1.as_slice()), (status, text));
 }

@@ -51,7 +51,7 @@ fn each_change_of_a_file_has_its_text(rt: HostRuntime) -> Result<(), Fail> {
     expect_replayed(&rt, too_long(alloc)?, "refused 1 2097153\n")
 }
 
-// Where the second read fails, the words end so and nothing is written. The first read gives ten bytes.
+// Where the second read fails, the words end with a read fault, and nothing is written. The first read gives ten bytes.
 fn expect_read_fault(
     rt: &(impl Threads + Sync + AllocGlobal + Abort),
     texts: &[&str],

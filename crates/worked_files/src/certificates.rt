@@ -207,7 +207,7 @@ fn a_certificate_is_written_back(rt: HostRuntime) -> Result<(), Fail> {
     Ok(())
 }
 
-// The refusals of the certificate with other bytes at these places and with these behind it, as it comes at once and byte by byte.
+// The refusals of the certificate with other bytes at these places and with these behind it, at once and byte by byte.
 fn both_refusals(
     alloc: Global,
     changes: &[(usize, u8)],

@@ -158,6 +158,8 @@ fn expect_cert_alone(rt: &impl Abort, alloc: Global, checked: &Checked) -> Resul
 }
 
 fn placed_alone(alloc: Global, checked: &Checked) -> Result<Placed, AllocError> {
+    // That the PIE is accepted, as `alone` asks, is what this ensures.
+    let _run = checked.states();
     let layout = alone(alloc, checked.pie())?;
     relocate(alloc, checked, &layout)
 }
