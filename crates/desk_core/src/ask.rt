@@ -8,6 +8,7 @@ ghost use Rattle.desk_core.specs.Working.Steps.{yes_or_no as reply_of};
 ghost use Rattle.desk_core.specs.declared.event.Event.TheVariants.{Ask};
 
 use crate::desk::Desk;
+use crate::entry::ENTRY_AND_CLOSE;
 use crate::event::Event;
 use crate::reply::Reply;
 use crate::submit::write;
@@ -31,7 +32,7 @@ impl Desk {
     {
         self.turns = self.turns.wrapping_add(1);
         let copy = fact.try_copy(alloc)?;
-        self.entries.reserve(1)?;
+        self.entries.reserve(ENTRY_AND_CLOSE)?;
         let held = is_held(&self.registry, fact);
         let reply = yes_or_no(held);
         write(&mut self.entries, pass, Event::Ask(client, copy), &reply);

@@ -2,6 +2,10 @@ use crate::event::Event;
 use crate::reply::Reply;
 use cairo_model::Pie;
 
+/// The room that an event wants in the journal before it changes anything: for its own entry and for one more, so that where no memory
+/// is left the desk can still be closed.
+pub(crate) const ENTRY_AND_CLOSE: usize = 2;
+
 /// One event of the journal, with the number of the pass that made it and the reply to it.
 #[derive(Debug, Drop)]
 pub struct Entry {

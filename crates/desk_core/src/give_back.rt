@@ -7,6 +7,7 @@ ghost use Rattle.desk_core.specs.declared.event.Event.TheVariants.{GiveBack};
 
 use crate::batch::Batch;
 use crate::desk::Desk;
+use crate::entry::ENTRY_AND_CLOSE;
 use crate::event::Event;
 use crate::phase::Phase;
 use crate::reply::Reply;
@@ -22,7 +23,7 @@ impl Desk {
         ensures good { IsGoodDesk self.old × IsGoodDesk self.new }
     {
         self.turns = self.turns.wrapping_add(1);
-        self.entries.reserve(1)?;
+        self.entries.reserve(ENTRY_AND_CLOSE)?;
         let phase = phase_at(self.batches.as_slice(), batch);
         let held = held_by(self.batches.as_slice(), pass, batch);
         let reply = returned_reply(held, phase);

@@ -21,7 +21,8 @@ impl Desk {
             jobs: Vec::new(alloc),
             batches: Vec::new(alloc),
             registry: Registry::new(alloc),
-            entries: Vec::new(alloc),
+            // Room to close it.
+            entries: Vec::with_capacity(alloc, 1)?,
             closed: false,
             turns: 0,
             usages: no_usages(alloc, clients)?,

@@ -8,6 +8,7 @@ ghost use Rattle.desk_core.specs.declared.batch.Batch.{Batch as BatchRecord};
 
 use crate::batch::Batch;
 use crate::desk::Desk;
+use crate::entry::ENTRY_AND_CLOSE;
 use crate::event::Event;
 use crate::give_back::{held_by, phase_at};
 use crate::job::Job;
@@ -39,7 +40,7 @@ impl Desk {
         let kept = jobs_at(self.jobs.as_slice(), self.batches.as_slice(), batch);
         let differs = first_difference(certified.parcel().tasks.as_slice(), kept);
         let reply = reply_with(held, phase, differs);
-        let Ok(()) = self.entries.reserve(1) else {
+        let Ok(()) = self.entries.reserve(ENTRY_AND_CLOSE) else {
             return RegisterEnd::OutOfMemory(certified);
         };
         if !is_welcome(held, differs) {

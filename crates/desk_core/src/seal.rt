@@ -10,6 +10,7 @@ ghost use Rattle.desk_core.specs.declared.event.Event.TheVariants.{Seal};
 
 use crate::batch::Batch;
 use crate::desk::Desk;
+use crate::entry::ENTRY_AND_CLOSE;
 use crate::event::Event;
 use crate::job::Job;
 use crate::phase::Phase;
@@ -31,7 +32,7 @@ impl Desk {
         let first = self.batched;
         let waiting = shapes(alloc, self.jobs.as_slice(), first as usize)?;
         self.batches.reserve(1)?;
-        self.entries.reserve(1)?;
+        self.entries.reserve(ENTRY_AND_CLOSE)?;
         let count = cut_number(waiting.as_slice());
         let number = number_of(self.batches.as_slice());
         let reply = sealed_reply(count, self.closed, number);

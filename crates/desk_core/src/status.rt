@@ -12,6 +12,7 @@ ghost use Rattle.desk_core.specs.declared.event.Event.TheVariants.{Status};
 
 use crate::batch::Batch;
 use crate::desk::Desk;
+use crate::entry::ENTRY_AND_CLOSE;
 use crate::event::Event;
 use crate::limits::MOST_CLIENT_PIES;
 use crate::phase::{JobPhase, Phase};
@@ -28,7 +29,7 @@ impl Desk {
         ensures good { IsGoodDesk self.old × IsGoodDesk self.new }
     {
         self.turns = self.turns.wrapping_add(1);
-        self.entries.reserve(1)?;
+        self.entries.reserve(ENTRY_AND_CLOSE)?;
         let found = index_at(self.places.as_slice(), client, number);
         let phase = phase_found(self.batches.as_slice(), found);
         let reply = Reply::IsAt(phase);

@@ -6,7 +6,7 @@ ghost use Rattle.desk_core.specs.Working.Telling.{HasPlace, places_after};
 ghost use Rattle.desk_core.specs.declared.event.Event.TheVariants.{Submit};
 
 use crate::desk::Desk;
-use crate::entry::Entry;
+use crate::entry::{ENTRY_AND_CLOSE, Entry};
 use crate::event::{Event, OfferNote};
 use crate::job::Job;
 use crate::offer::Offer;
@@ -33,7 +33,7 @@ impl Desk {
         self.turns = self.turns.wrapping_add(1);
         let note = noted(alloc, &offer)?;
         self.jobs.reserve(1)?;
-        self.entries.reserve(1)?;
+        self.entries.reserve(ENTRY_AND_CLOSE)?;
         let usage = usage_at(self.usages.as_slice(), client);
         let count = count_of(self.jobs.as_slice());
         let reply = offered_reply(&usage, self.closed, &note);

@@ -12,6 +12,7 @@ ghost use Rattle.desk_core.specs.declared.batch.Batch.{Batch as BatchRecord};
 
 use crate::batch::Batch;
 use crate::desk::Desk;
+use crate::entry::ENTRY_AND_CLOSE;
 use crate::event::Event;
 use crate::job::Job;
 use crate::phase::Phase;
@@ -33,7 +34,7 @@ impl Desk {
         self.turns = self.turns.wrapping_add(1);
         let found = next_sealed(self.next, self.batches.as_slice());
         let parcel = parcel_at(alloc, self.jobs.as_slice(), self.batches.as_slice(), found)?;
-        self.entries.reserve(1)?;
+        self.entries.reserve(ENTRY_AND_CLOSE)?;
         let reply = taken_reply(found);
         move_batch(&mut self.batches, found, Phase::Taken(pass));
         self.next = sealed_from(self.next, self.batches.as_slice());
