@@ -1,6 +1,7 @@
 //! A lock whose threads take turns by tickets, with one history of all turns.
 #![tactic(auto)]
 
+mod bells;
 mod kept;
 mod lock;
 mod pass;

@@ -6,6 +6,7 @@ ghost use Rattle.turn_lock.specs.declared.view.Stage.TheVariants.{Resting};
 ghost use Rattle.turn_lock.specs.Passes.{fresh, IsNumberOf};
 ghost use Rattle.turn_lock.specs.Working.Parts.{part_of};
 
+use crate::bells::Bells;
 use crate::kept::Kept;
 use crate::pass::Pass;
 use crate::plays::{Copy, Deal, Gather, Hear, Opening, Order, Settle};
@@ -14,14 +15,12 @@ use atomic_table::{Seat, Table};
 use std::alloc::{AllocError, Global};
 use std::marker::Model;
 use std::snapshot::Snapshot;
-use std::sync::atomic::AtomicU64;
 
 /// A value that one thread at a time changes, in the order of the tickets that they drew.
 #[derive(Drop)]
 pub struct TurnLock<V: Kept> {
     pub(crate) table: Table<Option<V>, View<V::Note>, Opening<V>, Order, Global>,
-    // How many threads sleep till another ticket is served. No clause speaks of it.
-    pub(crate) sleepers: AtomicU64,
+    pub(crate) bells: Bells,
 }
 
 impl<V: Kept> Model for TurnLock<V> {
@@ -60,7 +59,7 @@ impl<V: Kept + Drop> TurnLock<V> {
         };
         let lock = TurnLock {
             table,
-            sleepers: AtomicU64::new(0),
+            bells: Bells::new(),
         };
         let list = lock.deal(alloc, first, passes)?;
         Ok((lock, list))
@@ -115,7 +114,7 @@ impl<V: Kept> TurnLock<V> {
         ensures others { All (λ e. IsNumberOf passes.items e.0) (V.journal result) }
     {
         let all = self.gather(passes);
-        let TurnLock { table, sleepers: _ } = self;
+        let TurnLock { table, bells: _ } = self;
         let mut closed = table.close_with(all);
         let slot = closed.take(0);
         closed.free();

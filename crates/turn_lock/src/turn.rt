@@ -62,15 +62,8 @@ impl<V: Kept> TurnLock<V> {
         ensures own { seat.new.table_id ≡ seat.old.table_id }
         ensures ended { (value : V) (added : List (ℕ × V.Note)) → seat.old.me.1 ≡ (0, Some value) ∷ [] → V.journal value ≡ seat.old.me.0.seen ++ added → seat.new.me ≡ (raised seat.old.me.0 (V.journal value) added, []) }
     {
-        self.table.shared.fetch_add::<Raise>(seat, 1, 1);
-        self.wake();
-    }
-
-    // Wakes those who sleep, if anybody does.
-    fn wake(&self) {
-        if self.sleepers.load(Ordering::SeqCst) != 0 {
-            self.table.shared.wake_all(1);
-        }
+        self.bells
+            .call_after(self.table.shared.fetch_add::<Raise>(seat, 1, 1));
     }
 
     // Waits until the ticket is served. The slot is then the seat's.
@@ -90,15 +83,15 @@ impl<V: Kept> TurnLock<V> {
         unreachable!()
     }
 
-    // Sleeps until another ticket than now is served, unless this one is. Who serves one sees that there is a sleeper, or the sleeper
-    // sees that the word has changed.
+    // Sleeps until the ticket is called, unless it is served. Who calls it sees that there is a sleeper, or the sleeper sees that its
+    // bell was rung.
     fn sleep<R: Wait>(&self, rt: &R, ticket: u64) {
-        let served = self.table.shared.peek(1);
-        if served != ticket {
-            self.sleepers.fetch_add(1, Ordering::SeqCst);
-            let half = (served & LOW_HALF) as u32;
-            self.table.shared.park(rt, 1, half);
-            self.sleepers.fetch_sub(1, Ordering::SeqCst);
+        let bell = self.bells.of(ticket);
+        let heard = bell.load(Ordering::SeqCst);
+        if self.table.shared.peek(1) != ticket {
+            self.bells.sleepers.fetch_add(1, Ordering::SeqCst);
+            bell.park(rt, (heard & LOW_HALF) as u32);
+            self.bells.sleepers.fetch_sub(1, Ordering::SeqCst);
         }
     }
 
