@@ -143,15 +143,13 @@ fn written_to_three(
 
 #[test]
 fn reads_from_a_reader_and_writes_to_a_writer_of_std(rt: HostRuntime) -> Result<(), Fail> {
-    let ((status, bytes), (stopped, room)) = {
-        let words = owned_words(rt.alloc(), &["replay"])?;
-        let five = decode(rt.alloc(), FIVE)?;
-        (
-            written_to_vec(&rt, words.as_slice(), five.as_slice()),
-            written_to_three(&rt, words.as_slice(), five.as_slice()),
-        )
-    };
-    assert_eq!(rt; (status.number(), bytes.as_slice()), (0, LINE.as_slice()));
-    assert_eq!(rt; (stopped.number(), room.as_slice()), (5, b"adm".as_slice()));
+    let words = owned_words(rt.alloc(), &["replay"])?;
+    let five = decode(rt.alloc(), FIVE)?;
+    let (status, bytes) = written_to_vec(&rt, words.as_slice(), five.as_slice());
+    let (stopped, room) = written_to_three(&rt, words.as_slice(), five.as_slice());
+    assert_eq!(rt; status.number(), 0);
+    assert_eq!(rt; bytes.as_slice(), LINE.as_slice());
+    assert_eq!(rt; stopped.number(), 5);
+    assert_eq!(rt; room.as_slice(), b"adm".as_slice());
     Ok(())
 }
