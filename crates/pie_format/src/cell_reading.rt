@@ -27,7 +27,7 @@ pub(crate) fn file_cells<'a>(
     requires enough { cell_size * count ≤ length bytes.now }
     ensures { Gives (λ x. (memory_cells x.0.items, x.1.now)) result (cells_at sizes.now 0 None count bytes.now) }
 {
-    let mut cells = Vec::new(alloc);
+    let mut cells = Vec::with_capacity(alloc, count as usize)?;
     let mut before = None;
     let mut rest = bytes;
     for index in 0..count {

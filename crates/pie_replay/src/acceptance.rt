@@ -129,7 +129,7 @@ fn hash_of(alloc: Global, pie: &Pie, code: &[Felt]) -> Result<ProgramHash, Alloc
 fn words_of(alloc: Global, code: &[Felt]) -> Result<Vec<u64>, AllocError>
     ensures { IfOk result (λ words. words.items ≡ map (λ f. f.number) code.now) }
 {
-    let mut words = Vec::new(alloc);
+    let mut words = Vec::with_capacity(alloc, code.len())?;
     for word in code {
         words.push(word.value())?;
     }

@@ -35,7 +35,7 @@ pub fn run_from(
     ensures early { (e : FailedStep) → result ≡ Err (End.Refused e) → e.number < steps }
     ensures fails { (e : FailedStep) → result ≡ Err (End.Refused e) → FailsAfter value_arithmetic (memory_in memory.now) (registers start) e.number e.fault }
 {
-    let mut states = Vec::new(alloc);
+    let mut states = Vec::with_capacity(alloc, steps as usize + 1)?;
     states.push(start)?;
     let mut last = start;
     for number in 0..steps {

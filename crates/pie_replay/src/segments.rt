@@ -63,7 +63,7 @@ pub(crate) fn numbers_in(
     ensures full { IfOk result (λ numbers. HoldsNumbers pie.now.cells segment (segment_size pie.now segment) (map (λ f. f.number) numbers.items)) }
     ensures gap { (i : ℕ) → result ≡ Err (End.Refused i) → IsFirstGap pie.now segment i }
 {
-    let mut numbers = Vec::new(alloc);
+    let mut numbers = Vec::with_capacity(alloc, size_of(pie, segment) as usize)?;
     for offset in 0..size_of(pie, segment) {
         match number_at(memory, pie, segment, offset) {
             Some(n) => numbers.push(n)?,

@@ -20,11 +20,15 @@ use std::thread::yield_now;
 /// How often a waiting pass looks at the word that is served before it sleeps.
 const LOOKS: u32 = 1024;
 
-/// The half of a word by which a sleeping thread is told that the word has changed.
-const LOW_HALF: u64 = 0xffff_ffff;
+/// How often a pass without a ticket looks whether nobody stands in line before it sleeps.
+const GLANCES: u32 = 256;
+
+/// How often it finds somebody in line before it stands in line too.
+const PATIENCE: u32 = 16;
 
 impl<V: Kept> TurnLock<V> {
-    /// Draws a ticket, waits until it is served, makes the change, and serves the next ticket.
+    /// Draws a ticket, waits until it is served, makes the change, and serves the next ticket. While others stand in line it waits a
+    /// while before it draws one.
     pub fn turn<C: Change<V>, R: Wait + Sync>(
         &self,
         rt: &R,
@@ -35,11 +39,45 @@ impl<V: Kept> TurnLock<V> {
         requires fits { C.fits change pass.old.width }
         ensures { Turned V.journal V.width C.does change pass.old pass.new result }
     {
+        self.approach(rt);
         let mut value = self.begin(rt, &mut pass.seat);
         let answer = change.apply(pass.number, &mut value);
         self.put_back(&mut pass.seat, value);
         self.serve_next(&mut pass.seat);
         answer
+    }
+
+    // Waits until nobody stands in line, so that a pass seldom has a ticket while its thread isn't running. Who has slept often enough
+    // stands in line all the same.
+    fn approach<R: Wait>(&self, rt: &R) {
+        for _ in 0..PATIENCE {
+            if self.is_free() {
+                return;
+            }
+            self.sleep_behind(rt);
+        }
+    }
+
+    // Looks a few times whether each ticket that was drawn has been served.
+    fn is_free(&self) -> bool {
+        for _ in 0..GLANCES {
+            if self.table.shared.peek(0) == self.table.shared.peek(1) {
+                return true;
+            }
+            spin_loop();
+        }
+        false
+    }
+
+    // Sleeps until the tickets that were drawn are served, unless they are, or one more was drawn meanwhile: then the bell of the next
+    // ticket may have been rung before it was heard.
+    fn sleep_behind<R: Wait>(&self, rt: &R) {
+        let next = self.table.shared.peek(0);
+        let bell = self.bells.of(next);
+        let heard = bell.load(Ordering::SeqCst);
+        if self.table.shared.peek(1) != next && self.table.shared.peek(0) == next {
+            self.bells.sleep(rt, bell, heard);
+        }
     }
 
     // Draws a ticket, waits until it is served, and takes the value out.
@@ -55,7 +93,7 @@ impl<V: Kept> TurnLock<V> {
         self.take_out(rt, seat, ticket)
     }
 
-    // Serves the next ticket, and wakes those who sleep. The slot is at home again.
+    // Serves the next ticket, and wakes who waits for it. The slot is at home again.
     fn serve_next(&self, seat: &mut Seat<Option<V>, View<V::Note>>)
         requires own { seat.old.table_id ≡ self.now.lock }
         requires turn { (value : V) × Ending V.journal V.turns V.width seat.old.me value }
@@ -83,15 +121,12 @@ impl<V: Kept> TurnLock<V> {
         unreachable!()
     }
 
-    // Sleeps until the ticket is called, unless it is served. Who calls it sees that there is a sleeper, or the sleeper sees that its
-    // bell was rung.
+    // Sleeps until the ticket is called, unless it is served.
     fn sleep<R: Wait>(&self, rt: &R, ticket: u64) {
         let bell = self.bells.of(ticket);
         let heard = bell.load(Ordering::SeqCst);
         if self.table.shared.peek(1) != ticket {
-            self.bells.sleepers.fetch_add(1, Ordering::SeqCst);
-            bell.park(rt, (heard & LOW_HALF) as u32);
-            self.bells.sleepers.fetch_sub(1, Ordering::SeqCst);
+            self.bells.sleep(rt, bell, heard);
         }
     }
 
