@@ -1,11 +1,10 @@
 -- A number grows by each digit that is read after it.
-use Rattle.std.proofs.Common.{◌≡◌, ℕ, zero, suc, true, refl, ◌+◌, ◌-◌, ◌*◌, ◌<◌, ◌≤◌, List, [], ◌∷◌, length, drop, get_or, ap, arith}
+use Rattle.std.proofs.Common.{◌≡◌, ℕ, zero, suc, true, ◌+◌, ◌-◌, ◌*◌, ◌<◌, ◌≤◌, List, [], ◌∷◌, length, drop, get_or, ap, arith}
 use Rattle.std.specs.Char.{digit_value}
-use Rattle.std.specs.List.{list_all}
 use Rattle.std.specs.Str.Parse.{digits_value, digits_value_after}
 use Rattle.std.proofs.lemmas.Bool.Decides.{nat_tests}
 use Rattle.std.proofs.lemmas.List.{drop_more}
-use Rattle.cairo_model.proofs.Chains.{both_left, both_right}
+use Rattle.cairo_model.proofs.Chains.{both_right}
 use Rattle.desk_script.specs.Working.Numbers.{all_digits}
 
 grows : (n : ℕ) (ds : List ℕ) → n ≤ digits_value_after 10 n ds

@@ -1,11 +1,11 @@
 -- A script has one list of lines, and no bad line; a first bad line is one alone.
-use Rattle.std.proofs.Common.{◌≡◌, ◌≢◌, ◌==◌, if◌then◌else◌, ℕ, zero, suc, ◌+◌, ◌^◌, ◌<◌, ◌≤◌, inl, inr, List, [], ◌∷◌, length, get_or, refl, ap, ap₂, sym, subst, ◌∙◌, arith}
-use Rattle.std.proofs.lemmas.Bool.{cases_lt, cases_order}
+use Rattle.std.proofs.Common.{◌≡◌, ◌==◌, if◌then◌else◌, ℕ, zero, suc, ◌^◌, ◌<◌, ◌≤◌, inl, inr, List, [], ◌∷◌, length, get_or, refl, ap, ap₂, sym, subst, ◌∙◌, arith}
+use Rattle.std.proofs.lemmas.Bool.{cases_order}
 use Rattle.desk_script.specs.Limits.{most_lines}
 use Rattle.desk_script.proofs.ReadLines.{line_keeps, one_line}
 use Rattle.desk_script.proofs.Walks.{good_line}
 use Rattle.desk_script.specs.Lines.{ScriptLine, IsScriptLine, line_fields}
-use Rattle.desk_script.specs.Scripts.{AreScriptLines, BreaksFirst, IsFirstBadScriptLine, IsGoodLine, IsLineAt, IsScript, LineKeeps, kind_number, pieces_of}
+use Rattle.desk_script.specs.Scripts.{AreScriptLines, BreaksFirst, IsFirstBadScriptLine, IsLineAt, IsScript, kind_number, pieces_of}
 use Rattle.desk_script.specs.declared.kinds.ScriptKind.{ScriptKind}
 use Rattle.desk_script.specs.declared.kinds.ScriptKind.TheVariants as kind
 use Rattle.desk_script.specs.declared.kinds.ScriptRefusal.{ScriptRefusal}

@@ -1,5 +1,5 @@
 -- What is read of a line's fields is the line that they are, or the first rule that they break.
-use Rattle.std.proofs.Common.{◌≡◌, ◌≢◌, ℕ, suc, ◌+◌, ◌^◌, ◌<◌, ◌≤◌, List, [], ◌∷◌, length, map, Option, Some, None, Result, Ok, Err, refl, ap, ap₂, sym, subst, ◌∙◌, arith}
+use Rattle.std.proofs.Common.{◌≡◌, ◌≢◌, ℕ, ◌^◌, ◌<◌, ◌≤◌, List, [], ◌∷◌, length, map, Option, Some, None, Result, Ok, Err, refl, ap, ap₂, sym, subst, ◌∙◌, arith}
 use Rattle.std.specs.Prelude.{codes, decimal}
 use Rattle.std.specs.Result.{result_ok}
 use Rattle.std.specs.List.{AllByRecursion}
@@ -8,7 +8,7 @@ use Rattle.cairo_model.specs.Machine.Steps.{◌>>=◌, required}
 use Rattle.cairo_model.specs.Pie.Acceptance.{FactRecord}
 use Rattle.cairo_model.proofs.Chains.{required_goes}
 use Rattle.cairo_model.proofs.Outcomes.{bind_goes, ok_is}
-use Rattle.goldi_field.specs.Numbers.{IsFelt, prime}
+use Rattle.goldi_field.specs.Numbers.{IsFelt}
 use Rattle.hex.specs.Hex.{decode_of}
 use Rattle.hex.specs.declared.error.FromHexError.{FromHexError}
 use Rattle.desk_script.specs.Limits.{job_limit}

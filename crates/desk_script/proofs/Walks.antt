@@ -1,11 +1,11 @@
 -- Reading a script line by line.
-use Rattle.std.proofs.Common.{◌≡◌, ◌≢◌, ℕ, zero, suc, ◌+◌, ◌-◌, ◌<◌, ◌≤◌, ◌==◌, inl, inr, List, [], ◌∷◌, ◌++◌, length, drop, get_or, refl, ap, sym, subst, ◌∙◌, append_assoc, arith}
+use Rattle.std.proofs.Common.{◌≡◌, ℕ, suc, ◌+◌, ◌<◌, ◌≤◌, ◌==◌, inl, inr, List, [], ◌∷◌, ◌++◌, length, drop, get_or, refl, ap, sym, subst, ◌∙◌, append_assoc, arith}
 use Rattle.std.proofs.lemmas.Bool.{cases_lt}
 use Rattle.std.proofs.lemmas.List.{append-nil, drop_more, length-append, length-drop}
 use Rattle.std.proofs.lemmas.List.Splits.{length-slice_split}
 use Rattle.desk_script.specs.Limits.{most_lines}
 use Rattle.desk_script.specs.Lines.{ScriptLine, IsScriptLine, line_fields}
-use Rattle.desk_script.specs.Scripts.{AreScriptLines, FieldsKeep, IsGoodLine, IsScript, LineKeeps, pieces_of}
+use Rattle.desk_script.specs.Scripts.{AreScriptLines, FieldsKeep, IsGoodLine, IsScript, pieces_of}
 use Rattle.desk_script.specs.declared.kinds.ScriptKind.{ScriptKind}
 use Rattle.desk_script.specs.declared.kinds.ScriptKind.TheVariants as kind
 

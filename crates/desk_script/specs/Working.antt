@@ -1,3 +1,4 @@
+pub mod Ahead
 pub mod Numbers
 pub mod Reading
 pub mod Views

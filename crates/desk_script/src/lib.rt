@@ -1,6 +1,7 @@
 //! The script of a desk's clients, and the transcript of what happened at the desk (docs/SERVICE.md).
 #![tactic(auto)]
 
+mod ahead;
 mod batches;
 mod entries;
 mod fields;
@@ -17,5 +18,5 @@ mod verb;
 pub use kinds::{ScriptKind, ScriptRefusal};
 pub use laws::{one_script, one_script_refusal, own_lines_laws, script_is_not_refused};
 pub use line::{Line, Script};
-pub use script::read_script;
+pub use script::{read_script, read_script_by_threads};
 pub use transcripts::transcript;

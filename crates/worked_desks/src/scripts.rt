@@ -3,7 +3,9 @@
 
 use cairo_model::{End, ReadRefusal, Refusal};
 use desk_core::{Desk, Offer};
-use desk_script::{Line, ScriptKind, ScriptRefusal, read_script, transcript};
+use desk_script::{
+    Line, Script, ScriptKind, ScriptRefusal, read_script, read_script_by_threads, transcript,
+};
 use hex::decode;
 use pie_replay::admit;
 use std::alloc::{AllocError, Global};
@@ -12,9 +14,9 @@ use worked_vectors::files::FIVE;
 
 const FIVE_HASH: &str = "644b2c86fee53a4ad40c21efa0e8524e34c75966cf12fcbfe5a3ae40d0a8bcbd";
 
-// Why these bytes are no script for so many clients.
-fn refusal(alloc: Global, text: &[u8], clients: u32) -> Option<ScriptRefusal> {
-    match read_script(alloc, text, clients) {
+// Why what was read is no script.
+fn refusal(read: Result<Script, End<ScriptRefusal>>) -> Option<ScriptRefusal> {
+    match read {
         Err(End::Refused(refusal)) => Some(refusal),
         _ => None,
     }
@@ -38,9 +40,9 @@ fn are_the_five(lines: &[Line]) -> bool {
     }
 }
 
-// Whether these bytes are read as those lines.
-fn reads_the_five(alloc: Global, text: &[u8]) -> bool {
-    match read_script(alloc, text, 2) {
+// Whether those lines were read.
+fn is_the_five(read: Result<Script, End<ScriptRefusal>>) -> bool {
+    match read {
         Ok(script) => are_the_five(script.lines.as_slice()),
         Err(_) => false,
     }
@@ -51,7 +53,9 @@ fn each_kind_of_line_is_read(rt: HostRuntime) -> Result<(), Fail> {
     let text = format!(in rt.alloc();
         "submit 1 00fF\nsubmit 0 \nask 0 {FIVE_HASH} 5\nstatus 1 4294967295\nsettle 0\n"
     )?;
-    assert!(rt; reads_the_five(rt.alloc(), text.as_bytes()));
+    let alloc = rt.alloc();
+    assert!(rt; is_the_five(read_script(alloc, text.as_bytes(), 2)));
+    assert!(rt; is_the_five(read_script_by_threads(&rt, alloc, text.as_bytes(), 2)));
     Ok(())
 }
 
@@ -73,7 +77,9 @@ fn the_first_bad_line_is_named_with_its_first_fault(rt: HostRuntime) -> Result<(
         (b"settle 0\nstatus 0 01\nfrob\n", 2, ScriptKind::Number),
     ];
     for (text, line, kind) in rows {
-        assert_eq!(rt; refusal(alloc, text, 1), Some(ScriptRefusal { line, kind }));
+        let wanted = Some(ScriptRefusal { line, kind });
+        assert_eq!(rt; refusal(read_script(alloc, text, 1)), wanted);
+        assert_eq!(rt; refusal(read_script_by_threads(&rt, alloc, text, 1)), wanted);
     }
     assert_eq!(rt; ScriptKind::TooMany.number(), 7);
     Ok(())

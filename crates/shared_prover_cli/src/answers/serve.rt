@@ -12,7 +12,7 @@ use batch_runner::BootMaker;
 use batch_workers::Gate;
 use cairo_model::End;
 use desk_core::Desk;
-use desk_script::{ScriptRefusal, read_script};
+use desk_script::{ScriptRefusal, read_script_by_threads};
 use script_server::serve_script;
 use std::alloc::{AllocError, Global};
 use std::sync::Wait;
@@ -62,7 +62,7 @@ fn served<R: Threads + Wait + Sync, G: Gate>(
     ensures served { IfOk result (DidScript ServesScript clients bytes.now) }
     ensures refused { (r : ScriptRefusal) → result ≡ Err (End.Refused r) → IsFirstBadScriptLine clients bytes.now r }
 {
-    let script = match read_script(alloc, bytes, clients) {
+    let script = match read_script_by_threads(rt, alloc, bytes, clients) {
         Ok(script) => script,
         Err(End::Refused(refusal)) => return Err(End::Refused(refusal)),
         Err(End::OutOfMemory) => return Err(End::OutOfMemory),

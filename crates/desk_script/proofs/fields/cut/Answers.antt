@@ -1,4 +1,4 @@
-use Rattle.std.proofs.Common.{◌<◌, length, arith, rules}
+use Rattle.std.proofs.Common.{arith, rules}
 use Rattle.desk_script.proofs.Cuts.{cut_at, uncut}
 use Rattle.desk_script.proofs.fields.cut.Goals as goal
 
