@@ -79,7 +79,10 @@ fn the_first_bad_line_is_named_with_its_first_fault(rt: HostRuntime) -> Result<(
     for (text, line, kind) in rows {
         let wanted = Some(ScriptRefusal { line, kind });
         assert_eq!(rt; refusal(read_script(alloc, text, 1)), wanted);
-        assert_eq!(rt; refusal(read_script_by_threads(&rt, alloc, text, 1)), wanted);
+        assert_eq!(rt;
+            refusal(read_script_by_threads(&rt, alloc, text, 1)),
+            wanted
+        );
     }
     assert_eq!(rt; ScriptKind::TooMany.number(), 7);
     Ok(())
