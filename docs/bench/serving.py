@@ -5,9 +5,11 @@ Usage: serving.py [PROGRAM] [ROUNDS] [--full]    (run it at the repository's top
 
 The script is that of `make 256`, with four clients, and under --full that of sixteen clients who are all at their quotas (sizes.py). In
 each round every command runs once, so that what else the machine does meets all of them; the least time of all rounds counts, elapsed
-and of the processors, and the greatest peak.
+and of the processors, and the greatest peak. How many times as fast a run is as `batch` is told by the two of the same round, and of
+all rounds by the median.
 """
 import os
+import statistics
 import subprocess
 import sys
 import tempfile
@@ -65,11 +67,12 @@ def main():
     for _ in range(rounds):
         for name, words in runs_of(clients).items():
             found[name].append(taken(program, words, script, jobs))
-    alone = min(elapsed for elapsed, _, _ in found["`batch`"])
+    alone = [elapsed for elapsed, _, _ in found["`batch`"]]
     print("| Run | Elapsed (ms) | Times as fast as `batch` | Jobs a second | Processor time (ms) | Peak memory (KiB) |\n|---|---|---|---|---|---|")
     for name, runs in found.items():
         elapsed, spent, peak = min(r[0] for r in runs), min(r[1] for r in runs), max(r[2] for r in runs)
-        print(f"| {name} | {elapsed * 1000:.0f} | {alone / elapsed:.2f} | {jobs / elapsed:,.0f} | {spent * 1000:.0f} | {peak:,} |")
+        times = statistics.median(one / run[0] for one, run in zip(alone, runs))
+        print(f"| {name} | {elapsed * 1000:.0f} | {times:.2f} | {jobs / elapsed:,.0f} | {spent * 1000:.0f} | {peak:,} |")
 
 
 main()
