@@ -176,7 +176,7 @@ def main():
         subprocess.run(["rt", "run", "--", "lock", "1", "1"], cwd=f"{folder}/crates/turns", check=True, stdout=sys.stderr)
         print("| Threads | Turns a second, TurnLock | Turns a second, Mutex |")
         print("|---|---|---|")
-        for threads in (1, 2, 4, 8):
+        for threads in (1, 2, 4, 8, 16):
             rates = [turns / min(spent(folder, kind, threads, turns) for _ in range(5)) for kind in ("lock", "mutex")]
             print(f"| {threads} | {rates[0]:,.0f} | {rates[1]:,.0f} |", flush=True)
 
