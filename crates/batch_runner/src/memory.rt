@@ -1,6 +1,6 @@
 //! All cells of a batch.
 
-ghost use Rattle.std.specs.Prelude.{◌≡◌, ◌+◌, ◌++◌, ◌<◌, ◌≤◌, ◌^◌, [], length, map, All, IfOk};
+ghost use Rattle.std.specs.Prelude.{◌≡◌, ◌+◌, ◌++◌, ◌<◌, ◌≤◌, length, map, All, IfOk};
 ghost use Rattle.boot_program.specs.Batch.Limits.{most_batch_tasks};
 ghost use Rattle.cairo_model.specs.Machine.FieldMemories.{field_cell};
 ghost use Rattle.goldi_field.specs.Numbers.{IsFelt};

@@ -1,4 +1,4 @@
-ghost use Rattle.std.specs.Prelude.{◌≡◌, ◌<◌, ◌≤◌, ◌^◌, drop, length, slice_index, sum};
+ghost use Rattle.std.specs.Prelude.{◌≡◌, ◌<◌, ◌≤◌, ◌^◌, drop, length, sum};
 ghost use Rattle.cairo_model.specs.Pie.Records.{AreSizes};
 ghost use Rattle.cairo_model.specs.Limits.{least_segments, most_cells, most_segments};
 ghost use Rattle.batch_runner.specs.Laws.{IsAccepted};

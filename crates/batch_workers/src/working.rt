@@ -1,4 +1,4 @@
-ghost use Rattle.std.specs.Prelude.{◌≡◌, ℕ, List, Err, IfOk, None};
+ghost use Rattle.std.specs.Prelude.{◌≡◌, List, Err, IfOk, None};
 ghost use Rattle.cairo_model.specs.Pie.Records.{PieRecord};
 ghost use Rattle.desk_core.specs.DeskRecords.{plain_of};
 ghost use Rattle.desk_core.specs.Desks.{first_sealed};

@@ -1,5 +1,4 @@
 ghost use Rattle.std.specs.Prelude.{◌≡◌, ◌≤◌, ◌+◌, length, All};
-ghost use Rattle.cairo_model.specs.Segments.{builtin_mask};
 ghost use Rattle.boot_program.specs.Batch.Limits.{most_batch_cells, most_batch_steps, most_batch_tasks, most_boot_words};
 ghost use Rattle.boot_program.specs.Instructions.{HasInstructions, IsCallOfTasks, boot_listing};
 ghost use Rattle.boot_program.specs.Laws.{BatchRuns, EachStretch, FrameHolds, HeadersAreTrue, OneTaskARow, ReturnTells, RowLaw, RowsLaw, SpanHasInstances, TurnRuns, TurnTells};

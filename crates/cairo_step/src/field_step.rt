@@ -1,6 +1,6 @@
 ghost use Rattle.std.specs.Prelude.{◌≡◌, ok_or, option_map, Some, MatchResult, IfErr};
 ghost use Rattle.cairo_model.specs.Machine.FieldMemories.{cell_at};
-ghost use Rattle.cairo_model.specs.Machine.Steps.{Registers, field_arithmetic, Step, StepFaultOf, found, spelled, after as after_of, register_in, op1_from, result_of, next_pc as next_pc_of, next_ap as next_ap_of, next_fp as next_fp_of, keeps_call as call_test, keeps_assert as assert_test};
+ghost use Rattle.cairo_model.specs.Machine.Steps.{field_arithmetic, Step, StepFaultOf, found, spelled, after as after_of, register_in, op1_from, result_of, next_pc as next_pc_of, next_ap as next_ap_of, next_fp as next_fp_of, keeps_call as call_test, keeps_assert as assert_test};
 ghost use Rattle.cairo_model.specs.Views.Machine.{field_registers};
 ghost use Rattle.cairo_step.specs.FieldFaults.{IsFieldFault};
 ghost use Rattle.cairo_word.specs.Instructions.{fields};

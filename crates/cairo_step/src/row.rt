@@ -4,7 +4,7 @@ ghost use Rattle.cairo_model.specs.Machine.Steps.{Step, field_arithmetic};
 ghost use Rattle.cairo_model.specs.Views.Machine.{field_registers};
 ghost use Rattle.cairo_step.specs.Equations.{Equations, ◌⊕◌, ◌⊖◌, half};
 ghost use Rattle.cairo_step.specs.Working.Parts.{split};
-ghost use Rattle.cairo_step.specs.Working.Split.{is_row, x_cell, y_cell, z_cell, register_at, z_from as z_source, result_in as result_of, pc_after as after_of, pc_in as pc_of, ap_in as ap_of, fp_in as fp_of, keeps_opcode as opcode_test, leads_to as leads_test};
+ghost use Rattle.cairo_step.specs.Working.Split.{is_row, register_at, z_from as z_source, result_in as result_of, pc_after as after_of, pc_in as pc_of, ap_in as ap_of, fp_in as fp_of, keeps_opcode as opcode_test, leads_to as leads_test};
 
 use crate::split::Parts;
 use cairo_model::{Cells, FieldState, cells_are_felts, felt_of};

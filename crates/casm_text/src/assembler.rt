@@ -4,9 +4,9 @@ ghost use Rattle.casm_text.specs.Refusals.{Assembles, IsFirstAsmCause, most_word
 ghost use Rattle.casm_text.specs.Tokens.{lines_of};
 ghost use Rattle.casm_text.specs.Words.{statement_fields};
 ghost use Rattle.casm_text.specs.Working.Assembling.{Adds, KeepsLabels, LineAdds, PutsWord, Surveys, kept_setting, known_lines, line_spelled, offset_in, range_good};
-ghost use Rattle.casm_text.specs.Working.PlainViews.{listed_statement, one_number};
+ghost use Rattle.casm_text.specs.Working.PlainViews.{listed_statement};
 ghost use Rattle.casm_text.specs.Working.Views.{line_view};
-ghost use Rattle.std.specs.Prelude.{◌≡◌, ◌++◌, ◌<◌, ◌≤◌, ◌^◌, Err, IfOk, OnOk, Ok, length, true};
+ghost use Rattle.std.specs.Prelude.{◌≡◌, ◌<◌, ◌≤◌, ◌^◌, Err, IfOk, OnOk, Ok, length, true};
 
 use crate::code::Code;
 use crate::instructions::{instruction, number};

@@ -2,9 +2,9 @@ ghost use Rattle.casm_text.specs.Lines.{line_size, statement_size};
 ghost use Rattle.casm_text.specs.Refusals.{IsFirstAsmCause};
 ghost use Rattle.casm_text.specs.Tokens.{lines_of};
 ghost use Rattle.casm_text.specs.Words.{aim_second, operand_second, source_second, statement_numbers};
-ghost use Rattle.casm_text.specs.Working.Assembling.{kept_setting, known_lines, is_set_at, labels_good, names_set, offset_in, setting_with, KeepsLabels, Surveys};
+ghost use Rattle.casm_text.specs.Working.Assembling.{kept_setting, known_lines, labels_good, names_set, offset_in, setting_with, KeepsLabels, Surveys};
 ghost use Rattle.casm_text.specs.Working.Views.{aim_view, line_view, operand_view, source_view, statement_view};
-ghost use Rattle.std.specs.Prelude.{ℕ, ◌≡◌, ◌≤◌, ◌<◌, ◌^◌, Err, IfOk, List, OnOk, length, is_some};
+ghost use Rattle.std.specs.Prelude.{ℕ, ◌≡◌, ◌≤◌, ◌<◌, ◌^◌, Err, IfOk, List, OnOk, length};
 
 use crate::lines::{first_line, known_line, line_number, line_of};
 use crate::refusal::AsmRefusal;

@@ -1,5 +1,3 @@
-ghost use Rattle.casm_text.specs.Listings.{nowhere};
-ghost use Rattle.casm_text.specs.Statements.{word as word_statement};
 ghost use Rattle.casm_text.specs.Words.{statement_fields};
 ghost use Rattle.casm_text.specs.Working.Rendering.{dst_cell, is_word_of, op0_cell, op1_operand, right_side, statement_for as statement_for_fields, is_given as is_given_of, listed_at};
 ghost use Rattle.casm_text.specs.Working.PlainViews.{listed_cell, one_number, listed_operand, listed_source, listed_statement};

@@ -1,5 +1,5 @@
 ghost use Rattle.casm_text.specs.Tokens.{before_comment as comment_cut, is_digit as digit_test, is_letter as letter_test, is_name_byte as name_byte_test, is_pair as pair_test};
-ghost use Rattle.casm_text.specs.Working.Tokenizing.{most_tokens, goes_on as goes_on_test, whole_token, tokens_after, tokens_of_line};
+ghost use Rattle.casm_text.specs.Working.Tokenizing.{most_tokens, goes_on as goes_on_test, whole_token, tokens_of_line};
 ghost use Rattle.std.specs.Prelude.{◌≡◌, ◌<◌, ◌+◌, ◌^◌, ◌++◌, ◌==◌, IfOk, OnOk, map, take, if◌then◌else◌};
 
 use std::alloc::{AllocError, Global};

@@ -5,7 +5,7 @@ ghost use Rattle.cert_format.specs.Working.Taking.{size_of, IsAwaiting, marks_le
 use crate::fields::{cell_at, felt_at, state_at};
 use crate::front::{Front, front_at};
 use crate::parts::{
-    BASE_BYTES, CELL_BYTES, COUNT_BYTES, FRONT_BYTES, MARK_BYTES, STATE_BYTES, count_at, has_magic,
+    BASE_BYTES, CELL_BYTES, COUNT_BYTES, FRONT_BYTES, MARK_BYTES, STATE_BYTES, has_magic,
 };
 use crate::refusal::CertRefusal;
 use crate::stage::Stage;

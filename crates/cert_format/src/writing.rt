@@ -1,6 +1,5 @@
 ghost use Rattle.std.specs.Prelude.{◌≡◌, ◌++◌, ◌∷◌, [], ◌<◌, ◌^◌, All, length, map, IfOk, OnOk};
 ghost use Rattle.std.specs.Int.{w32, w64, to_be_bytes};
-ghost use Rattle.cairo_model.specs.Certificate.Records.{MarkRecord};
 ghost use Rattle.cairo_model.specs.Views.Certificate.{kind_of, span_of};
 ghost use Rattle.cairo_model.specs.Machine.FieldMemories.{field_cell};
 ghost use Rattle.cairo_model.specs.Views.Machine.{field_registers};

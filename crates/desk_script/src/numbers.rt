@@ -1,6 +1,5 @@
 ghost use Rattle.std.specs.Prelude.{◌≡◌, ◌≤◌, ◌^◌, ◌==◌, IfNone, IfSome, option_map, true};
 ghost use Rattle.std.specs.Str.Parse.{digits_value};
-ghost use Rattle.std.specs.List.{list_all};
 ghost use Rattle.goldi_field.specs.Numbers.{prime};
 ghost use Rattle.desk_script.specs.Working.Numbers.{all_digits, is_decimal as decimal_test, number_in};
 

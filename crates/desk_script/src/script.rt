@@ -29,7 +29,7 @@ pub fn read_script(alloc: Global, bytes: &[u8], clients: u32) -> Result<Script, 
     script_of(alloc, bytes, clients, Vec::new(alloc))
 }
 
-/// The same, where the lines are read side by side first, each by itself, by as many threads as the machine has processors for.
+/// The same, where the lines are read side by side first, each by itself, by the threads that `rayon` starts for them.
 pub fn read_script_by_threads<R: Threads + Sync>(
     rt: &R,
     alloc: Global,

@@ -1,4 +1,4 @@
-ghost use Rattle.std.specs.Prelude.{◌≡◌, ◌<◌, ◌^◌, length, Option, Some, None, Result, Ok, option_map};
+ghost use Rattle.std.specs.Prelude.{◌≡◌, ◌<◌, Option, Some, None, Result, Ok};
 ghost use Rattle.serde_json.specs.View.{view, items_view};
 ghost use Rattle.cairo_model.specs.Pie.Files.{metadata_of, wholes_in, wholes_at as list_at, whole_at as number_at, has_four_keys as is_object_of_four};
 ghost use Rattle.cairo_model.specs.Machine.Steps.{required};

@@ -1,5 +1,5 @@
 ghost use Rattle.std.specs.Prelude.{◌≡◌, Ok, Err, Result, MatchResult, ok_or, option_map};
-ghost use Rattle.cairo_model.specs.Machine.Steps.{Registers, value_arithmetic, next, found, spelled, after as after_of, register_in, op1_from, result_of, next_pc as next_pc_of, next_ap as next_ap_of, next_fp as next_fp_of, keeps_call as call_test, keeps_assert as assert_test};
+ghost use Rattle.cairo_model.specs.Machine.Steps.{value_arithmetic, next, found, spelled, after as after_of, register_in, op1_from, result_of, next_pc as next_pc_of, next_ap as next_ap_of, next_fp as next_fp_of, keeps_call as call_test, keeps_assert as assert_test};
 ghost use Rattle.cairo_model.specs.Views.Machine.{registers, datum};
 ghost use Rattle.cairo_word.specs.Instructions.{fields};
 ghost use Rattle.seg_memory.specs.Memory.{memory_in};

@@ -1,6 +1,6 @@
 -- The calling convention of a PIE's isolated run, carried over to each field memory that has the relocated cells. It asks for
 -- as many bases as segments, wherever they lie.
-use Rattle.std.proofs.Common.{◌≡◌, ℕ, ◌+◌, ◌-◌, ◌<◌, List, length, slice_index, Option, Some, sym, ap, subst, ◌∙◌, arith}
+use Rattle.std.proofs.Common.{◌≡◌, ℕ, ◌-◌, ◌<◌, List, length, slice_index, Option, Some, sym, ap, subst, ◌∙◌, arith}
 use Rattle.goldi_field.specs.Numbers.{prime, IsFelt, difference_of}
 use Rattle.cairo_model.specs.Machine.Addresses.{down, found_below}
 use Rattle.cairo_model.specs.Machine.Values.{Datum, number, place, Difference}

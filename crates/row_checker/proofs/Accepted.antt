@@ -1,5 +1,5 @@
 -- A certificate keeps each rule exactly where the machine accepts it, and where it is of a batch, its run is the bootloader's.
-use Rattle.std.proofs.Common.{◌≡◌, ℕ, zero, suc, ◌+◌, ◌-◌, ◌*◌, ◌<◌, ◌≤◌, List, [], ◌∷◌, length, slice_get, slice_index, Option, Some, refl, sym, ap, subst, ◌∙◌, arith}
+use Rattle.std.proofs.Common.{◌≡◌, ℕ, zero, suc, ◌+◌, ◌-◌, ◌*◌, ◌<◌, List, [], ◌∷◌, length, slice_get, slice_index, Option, Some, refl, sym, ap, subst, ◌∙◌, arith}
 use Rattle.std.specs.Prelude.{All}
 use Rattle.std.proofs.lemmas.List.{get_or_default}
 use Rattle.builtin_range.specs.Ranges.{IsRangeCell}
@@ -7,7 +7,7 @@ use Rattle.cairo_model.specs.Certificate.Acceptance.{MachineAccepts, SpanHolds, 
 use Rattle.cairo_model.specs.Certificate.Records.{CertRecord, SpanRecord, batch}
 use Rattle.cairo_model.specs.Machine.FieldMemories.{FieldCell, cell_at}
 use Rattle.cairo_model.specs.Machine.Runs.{IsState, LeadsOn}
-use Rattle.cairo_model.specs.Machine.Steps.{Registers, field_arithmetic, RunsTo, Run, RunFrom, last_of}
+use Rattle.cairo_model.specs.Machine.Steps.{Registers, field_arithmetic, RunsTo, Run, last_of}
 use Rattle.cairo_model.specs.Pie.BuiltinCells.{AreInstances}
 use Rattle.cairo_model.proofs.Groups as groups
 use Rattle.cairo_model.proofs.Outcomes.{some_is}
@@ -15,7 +15,7 @@ use Rattle.cairo_model.proofs.RunParts.{all_lead, one_state, runs_by_states}
 use Rattle.boot_program.specs.Faults.Causes.{AcceptsRun}
 use Rattle.boot_program.specs.Faults.Rules.{EndRule, has_last, returned, restored, output_stop, range_stop, hash_stop, StartRule, has_state, above_frame, output_start, range_start, hash_start, has_caller, has_return, enters_boot, returns_to_boot, EndsBy, HasEnds, IsEndRule, IsInSpan, IsStartRule, IsThere, KeepsEndRule, RangeCellAt, StartsBy, WholeInstanceAt, end_rule, start_rule}
 use Rattle.boot_program.specs.Batch.Acceptance.{BootBound}
-use Rattle.row_checker.specs.Working.Stages.{EachRowLeads, KeepsRun}
+use Rattle.row_checker.specs.Working.Stages.{KeepsRun}
 
 -- ---- the numbers of a span
 

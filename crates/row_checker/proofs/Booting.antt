@@ -1,5 +1,5 @@
 -- The bootloader's words one by one.
-use Rattle.std.proofs.Common.{◌≡◌, ℕ, zero, suc, ◌+◌, ◌<◌, List, length, slice_get, slice_index, Option, Some, None, refl, ap, ◌∙◌, arith}
+use Rattle.std.proofs.Common.{◌≡◌, ℕ, zero, suc, ◌+◌, ◌<◌, length, slice_get, slice_index, Option, Some, ap, ◌∙◌, arith}
 use Rattle.std.proofs.lemmas.Option.{get_or_from_slice_get, slice_get-get_or, slice_get_within}
 use Rattle.boot_program.specs.Faults.Rules.{HasBootWord}
 use Rattle.boot_program.specs.Words.{HasBoot, boot_code, boot_words}

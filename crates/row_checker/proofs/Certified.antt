@@ -1,5 +1,5 @@
 -- A certificate that passes each stage is accepted as a batch of its tasks, and each of them stands in it.
-use Rattle.std.proofs.Common.{◌≡◌, ℕ, ◌<◌, ◌≤◌, List, length, slice_get, Some, inl, inr, sym, subst, ◌∙◌, arith}
+use Rattle.std.proofs.Common.{◌≡◌, ℕ, List, length, inl, inr, sym, subst, ◌∙◌, arith}
 use Rattle.std.proofs.lemmas.Bool.{cases_lt}
 use Rattle.std.proofs.lemmas.Option.{slice_get_within}
 use Rattle.cairo_model.specs.Certificate.Records.{CertRecord}
@@ -7,7 +7,7 @@ use Rattle.cairo_model.specs.Pie.Acceptance.{CheckedRecord}
 use Rattle.cairo_model.proofs.Outcomes.{some_is}
 use Rattle.boot_program.specs.Batch.Acceptance.{AcceptsBatch}
 use Rattle.boot_program.specs.Batch.Standing.{AllStandIn, StandsIn}
-use Rattle.boot_program.specs.Faults.Causes.{AcceptsRun, IsOutputIndex, PrintsAt, wanted_of}
+use Rattle.boot_program.specs.Faults.Causes.{IsOutputIndex, PrintsAt, wanted_of}
 use Rattle.boot_program.specs.Faults.Tasks.{IsNumbered, TaskStands}
 use Rattle.row_checker.specs.Working.Stages.{KeepsBatchRun}
 use Rattle.row_checker.proofs.Accepted.{accepts_run}

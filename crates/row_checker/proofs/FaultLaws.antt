@@ -1,15 +1,13 @@
 -- The laws of the faults of certificates.
-use Rattle.std.proofs.Common.{◌≡◌, ◌≢◌, ℕ, zero, suc, [], ◌∷◌, ◌+◌, ◌-◌, ◌*◌, ◌<◌, ◌≤◌, ◌⊎◌, List, length, slice_get, slice_index, map, Option, Some, None, Result, Ok, Err, inl, inr, refl, sym, ap, ap₂, subst, ◌∙◌, arith}
+use Rattle.std.proofs.Common.{◌≡◌, ℕ, zero, suc, [], ◌∷◌, ◌+◌, ◌-◌, ◌*◌, ◌<◌, List, length, slice_get, slice_index, Option, Some, inl, inr, refl, sym, ap, ap₂, subst, ◌∙◌, arith}
 use Rattle.std.proofs.lemmas.Bool.{cases_lt}
 use Rattle.std.proofs.lemmas.Option.{slice_get-get_or}
 use Rattle.cairo_model.specs.Certificate.Records.{CertRecord, MarkRecord}
 use Rattle.cairo_model.specs.Machine.FieldMemories.{FieldCell, cell_at}
-use Rattle.cairo_model.specs.Machine.Steps.{Registers, field_arithmetic, next}
+use Rattle.cairo_model.specs.Machine.Steps.{Registers, field_arithmetic}
 use Rattle.cairo_model.specs.Pie.Acceptance.{CheckedRecord}
 use Rattle.cairo_model.specs.Pie.Records.{MemoryCell}
-use Rattle.cairo_model.specs.Refusals.FirstFailing.{IsFirstFailing}
-use Rattle.cairo_model.specs.declared.fault.StepFault.{StepFault}
-use Rattle.cairo_model.proofs.Chains.{no_fault, ok_same}
+use Rattle.cairo_model.proofs.Chains.{no_fault}
 use Rattle.cairo_model.proofs.Firsts as firsts
 use Rattle.cairo_model.proofs.Outcomes.{err_is, some_is}
 use Rattle.cairo_model.proofs.RunParts.{one_state}
@@ -18,7 +16,7 @@ use Rattle.boot_program.specs.Batch.Standing.{AllStandIn}
 use Rattle.boot_program.specs.Faults.Causes.{AcceptsRun, IsBatchCause, IsFirstBatchFault, IsFirstRunFault, IsOutputIndex, IsRunCause, PrintsAt, printed_at, wanted_of}
 use Rattle.boot_program.specs.Faults.Records.{FaultCause, at_boot, at_start, at_end, at_range, at_hash, at_row, at_output, at_task, fault_number}
 use Rattle.boot_program.specs.Faults.Rules.{HasBootWord, IsBootAddress, IsEndRule, IsInSpan, IsRowCause, IsStartRule, IsThere, KeepsEndRule, KeepsStartRule, RangeCellAt, StopsBy, WholeInstanceAt}
-use Rattle.boot_program.specs.Faults.Tasks.{IsBefore, IsFirstMissing, IsNumbered, ShowsTask, TaskMisses, TaskStands}
+use Rattle.boot_program.specs.Faults.Tasks.{IsFirstMissing, IsNumbered, ShowsTask, TaskMisses, TaskStands}
 use Rattle.boot_program.specs.declared.run_fault.RowCause.{RowCause}
 use Rattle.boot_program.specs.declared.run_fault.RowCause.TheVariants as causes
 use Rattle.cairo_model.specs.Machine.Runs.{LeadsOn}

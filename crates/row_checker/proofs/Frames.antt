@@ -1,5 +1,5 @@
 -- The rules of the start and of the end, at the first and the last state.
-use Rattle.std.proofs.Common.{◌≡◌, ℕ, ◌+◌, ◌-◌, ◌<◌, ◌≤◌, List, [], ◌∷◌, length, Option, Some, None, IfNone, IfSome, subst, arith}
+use Rattle.std.proofs.Common.{◌≡◌, ℕ, ◌-◌, List, [], ◌∷◌, length, Option, Some, None, IfNone, IfSome, subst, arith}
 use Rattle.cairo_model.specs.Certificate.Records.{CertRecord}
 use Rattle.cairo_model.specs.Machine.Runs.{IsState}
 use Rattle.cairo_model.specs.Machine.Steps.{Registers}

@@ -1,11 +1,11 @@
 -- What a certificate prints at an index, and from what is printed at each index to the whole span.
-use Rattle.std.proofs.Common.{◌≡◌, ℕ, ◌+◌, ◌-◌, ◌<◌, ◌≤◌, nat_lt, Bool, true, false, cond, List, length, slice_get, slice_index, Option, Some, None, inl, inr, refl, sym, ap, ◌∙◌, arith}
+use Rattle.std.proofs.Common.{◌≡◌, ℕ, ◌+◌, ◌-◌, nat_lt, true, List, length, Some, inl, inr, refl, sym, ap, ◌∙◌, arith}
 use Rattle.std.proofs.lemmas.Bool.{cases_lt, lt-ltb, ltb-true}
 use Rattle.std.proofs.lemmas.Option.{get_or_from_slice_get, slice_get_within}
 use Rattle.cairo_model.specs.Certificate.Acceptance.{SpanHolds}
 use Rattle.cairo_model.specs.Certificate.Records.{CertRecord}
 use Rattle.cairo_model.specs.Machine.FieldMemories.{cell_at}
-use Rattle.cairo_model.proofs.Outcomes.{some_is, then_gives}
+use Rattle.cairo_model.proofs.Outcomes.{then_gives}
 use Rattle.boot_program.specs.Faults.Causes.{IsOutputIndex, PrintsAt, printed_at}
 use Rattle.boot_program.specs.Faults.Rules.{IsInSpan, IsThere}
 

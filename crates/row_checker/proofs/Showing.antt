@@ -1,5 +1,5 @@
 -- The place that shows why a task doesn't stand.
-use Rattle.std.proofs.Common.{◌≡◌, ℕ, ◌+◌, List, length, map, take, drop, slice_get, Bool, Option, Some, None, IsTrue, inl, inr, refl, sym, ap, subst, ◌∙◌}
+use Rattle.std.proofs.Common.{◌≡◌, ℕ, List, length, map, take, drop, slice_get, Bool, Option, Some, None, IsTrue, inl, inr, sym, subst, ◌∙◌}
 use Rattle.cairo_model.specs.Certificate.Records.{CertRecord, MarkRecord}
 use Rattle.cairo_model.specs.Machine.FieldMemories.{cell_at}
 use Rattle.cairo_model.specs.Machine.Steps.{Registers}
@@ -10,7 +10,7 @@ use Rattle.cairo_model.specs.Pie.Records.{MemoryCell, memory_of}
 use Rattle.cairo_model.specs.Pie.Relocation.{HasRelocated}
 use Rattle.cairo_model.proofs.Outcomes.{no_some, some_is}
 use Rattle.boot_program.specs.Faults.Tasks.{IsFirstMissing, ShowsTask, TaskMisses, TaskStands}
-use Rattle.row_checker.specs.Working.Tasks.{IsStretch, ShowsPlaced, StandsAt}
+use Rattle.row_checker.specs.Working.Tasks.{ShowsPlaced, StandsAt}
 
 -- where each cell is there, none is missing
 pub none_missing : (bases : List ℕ) (cells : List MemoryCell) (field : ℕ → Option ℕ) → HasRelocated bases (memory_of cells) field → (t q : ℕ) → ¬ IsFirstMissing bases cells field t q

@@ -1,5 +1,5 @@
 -- A check goes by stages. Each of them rules out the causes of one number.
-use Rattle.std.proofs.Common.{◌≡◌, ℕ, ◌+◌, ◌*◌, ◌<◌, ◌≤◌, ◌==◌, if◌then◌else◌, List, length, inl, inr, sym, ap, subst, ◌∙◌, arith}
+use Rattle.std.proofs.Common.{◌≡◌, ℕ, ◌+◌, ◌*◌, ◌<◌, ◌≤◌, ◌==◌, if◌then◌else◌, List, inl, inr, sym, subst, ◌∙◌, arith}
 use Rattle.cairo_model.specs.Certificate.Records.{CertRecord, alone, batch}
 use Rattle.cairo_model.specs.Machine.FieldMemories.{cell_at}
 use Rattle.cairo_model.specs.Pie.Acceptance.{CheckedRecord}
@@ -9,7 +9,7 @@ use Rattle.boot_program.specs.Faults.Records.{FaultCause, at_boot, at_start, at_
 use Rattle.boot_program.specs.Faults.Rules.{IsEndRule, IsInSpan, IsStartRule, IsThere, KeepsEndRule, KeepsStartRule, OfBatch, RangeCellAt, WholeInstanceAt}
 use Rattle.boot_program.specs.Faults.Tasks.{IsNumbered, TaskStands}
 use Rattle.boot_program.specs.Words.{HasBoot}
-use Rattle.row_checker.specs.Working.Stages.{BatchPasses, EachRowLeads, KeepsFrame, KeepsSpans, Passes}
+use Rattle.row_checker.specs.Working.Stages.{BatchPasses, EachRowLeads, Passes}
 
 pub data Stage : Type 0 where
   boot : Stage

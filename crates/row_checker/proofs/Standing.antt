@@ -1,5 +1,5 @@
 -- The cells and the states of a task in the certificate of its batch.
-use Rattle.std.proofs.Common.{◌≡◌, ℕ, zero, suc, ◌+◌, ◌<◌, ◌≤◌, ◌⊎◌, List, [], ◌∷◌, length, map, take, drop, get_or, slice_get, Option, Some, None, option_map, inl, inr, refl, sym, ap, subst, ◌∙◌, arith}
+use Rattle.std.proofs.Common.{◌≡◌, ℕ, zero, suc, ◌+◌, ◌<◌, List, [], ◌∷◌, length, map, take, drop, get_or, slice_get, Option, Some, option_map, inl, inr, refl, sym, ap, ◌∙◌, arith}
 use Rattle.std.specs.List.{Contains}
 use Rattle.std.proofs.lemmas.Bool.{cases_lt}
 use Rattle.std.proofs.lemmas.List.{get_or-map, length-map}
@@ -12,7 +12,7 @@ use Rattle.cairo_model.specs.Pie.Relocation.{HasRelocated}
 use Rattle.cairo_model.proofs.Outcomes.{some_is}
 use Rattle.cairo_model.proofs.PieMemories.{IsCellFor, key_of, memory_gives, memory_has, offset_below}
 use Rattle.cairo_model.proofs.Windows.{rises_between}
-use Rattle.boot_program.specs.Faults.Tasks.{IsBefore, IsFirstMissing, IsMissing}
+use Rattle.boot_program.specs.Faults.Tasks.{IsBefore, IsFirstMissing}
 use Rattle.row_checker.specs.Working.Tasks.{HasCell, HasCellAt}
 
 -- ---- cells

@@ -1,6 +1,5 @@
 -- Rows of a list of states, walked in one piece or in chunks.
-use Rattle.std.proofs.Common.{◌≡◌, ℕ, zero, suc, ◌+◌, ◌-◌, ◌<◌, ◌≤◌, List, [], ◌∷◌, ◌++◌, length, map, get_or, slice_get, Option, Some, None, inl, inr, refl, sym, ap, subst, ◌∙◌, arith}
-use Rattle.std.specs.List.{AllZip}
+use Rattle.std.proofs.Common.{◌≡◌, ℕ, zero, suc, ◌+◌, ◌-◌, ◌<◌, ◌≤◌, List, [], ◌∷◌, length, map, get_or, Option, Some, None, inl, inr, sym, ap, subst, ◌∙◌, arith}
 use Rattle.std.proofs.lemmas.Bool.{cases_lt}
 use Rattle.std.proofs.lemmas.List.{length-map}
 use Rattle.cairo_model.specs.Machine.FieldMemories.{FieldCell, cell_at}
@@ -9,7 +8,7 @@ use Rattle.cairo_model.specs.Machine.Steps.{Registers, Step, field_arithmetic}
 use Rattle.cairo_model.specs.Views.Machine.{field_registers}
 use Rattle.cairo_model.specs.declared.state.FieldState.{FieldState}
 use Rattle.cairo_model.proofs.RunParts.{one_state}
-use Rattle.row_checker.specs.Working.Chunks.{AnswersChunk, AreChunks, first_of, or_else}
+use Rattle.row_checker.specs.Working.Chunks.{or_else}
 use Rattle.row_checker.specs.Working.Walks.{AllGood, IsAnswer, Leads}
 
 -- ---- the state at a place

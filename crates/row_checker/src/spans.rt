@@ -1,6 +1,6 @@
 //! What stands in the spans of a certificate.
 
-ghost use Rattle.std.specs.Prelude.{◌≡◌, ◌↔◌, ◌+◌, ◌*◌, ◌<◌, ◌≤◌, ℕ, IsTrue, IfNone, IfSome, Some, length, option_map, slice_index};
+ghost use Rattle.std.specs.Prelude.{◌≡◌, ◌↔◌, ◌+◌, ◌*◌, ◌<◌, ◌≤◌, ℕ, IsTrue, IfNone, IfSome, Some, length, slice_index};
 ghost use Rattle.boot_program.specs.Faults.Rules.{IsThere, RangeCellAt, WholeInstanceAt};
 ghost use Rattle.builtin_hash.specs.Instances.{cells_per_instance};
 ghost use Rattle.cairo_model.specs.Machine.FieldMemories.{AddressesRise, cell_at};

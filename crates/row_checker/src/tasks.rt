@@ -1,6 +1,6 @@
 //! Whether each task stands in the certificate of its batch.
 
-ghost use Rattle.std.specs.Prelude.{◌≡◌, ◌↔◌, ◌+◌, ◌<◌, ◌^◌, ℕ, IfNone, IfSome, IsTrue, drop, length, map, option_map, slice_get, take};
+ghost use Rattle.std.specs.Prelude.{◌≡◌, ◌↔◌, ◌+◌, ◌<◌, ℕ, IfNone, IfSome, IsTrue, drop, length, map, option_map, slice_get, take};
 ghost use Rattle.boot_program.specs.Faults.Tasks.{IsFirstMissing, IsNumbered, ShowsTask, TaskStands};
 ghost use Rattle.cairo_model.specs.Machine.FieldMemories.{cell_at};
 ghost use Rattle.cairo_model.specs.Machine.Runs.{IsState};

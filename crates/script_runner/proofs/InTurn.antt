@@ -1,10 +1,10 @@
 -- Lines done in turn: one line more, and the desk after it.
-use Rattle.std.proofs.Common.{◌≡◌, ℕ, List, [], ◌∷◌, ◌++◌, map, refl, sym, ap, ◌∙◌, subst, append_assoc}
+use Rattle.std.proofs.Common.{◌≡◌, ℕ, List, [], ◌∷◌, ◌++◌, refl, sym, ap, ◌∙◌, subst, append_assoc}
 use Rattle.std.proofs.lemmas.List.{append-nil}
 use Rattle.desk_core.specs.DeskRecords.{DeskRecord, journal_of, plain_of}
 use Rattle.desk_core.specs.Desks.{PlainDesk, empty_desk}
 use Rattle.desk_core.specs.GoodDesks.{IsGoodDesk}
-use Rattle.desk_core.specs.Journals.{after_move, move_of, played}
+use Rattle.desk_core.specs.Journals.{after_move, move_of}
 use Rattle.desk_core.specs.declared.entry.FullEntry.{FullEntry}
 use Rattle.desk_script.specs.Lines.{ScriptLine}
 use Rattle.script_runner.specs.Lines.{DoesLine, DoesLines}

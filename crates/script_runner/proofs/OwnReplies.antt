@@ -2,7 +2,6 @@
 use Rattle.std.proofs.Common.{◌≡◌, ℕ, ◌==◌, Bool, true, false, cond, List, [], ◌∷◌, ◌++◌, map, refl, sym, ap, ◌∙◌, subst}
 use Rattle.std.specs.List.{cons_option}
 use Rattle.std.specs.Prelude.{All, Option, Some, None, filter_map, option_map}
-use Rattle.std.proofs.lemmas.Bool.{eq-eqb}
 use Rattle.std.proofs.lemmas.List.Elements.{All-append, All-cons, All-head, All-nil, All-same, All-tail, All-weaker, filter_map-append}
 use Rattle.batch_workers.specs.Works.{IsWorkOf, is_work}
 use Rattle.desk_core.specs.Isolation.{IsIsolated, answered_of, is_close, offered_by, offers_of, replies_of}

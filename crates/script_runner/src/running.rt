@@ -1,4 +1,4 @@
-ghost use Rattle.std.specs.Prelude.{◌≡◌, ◌<◌, ◌≤◌, All, IfOk, map};
+ghost use Rattle.std.specs.Prelude.{◌<◌, ◌≤◌, All, IfOk, map};
 ghost use Rattle.desk_core.specs.GoodDesks.{IsGoodDesk};
 ghost use Rattle.desk_core.specs.Limits.{most_clients};
 ghost use Rattle.desk_script.specs.Views.{line_view};

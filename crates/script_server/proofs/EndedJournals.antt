@@ -20,16 +20,14 @@ use Rattle.session_desk.proofs.Mine.{leaves_entry}
 use Rattle.session_desk.proofs.Seen.{notes_back}
 use Rattle.session_desk.specs.PassTurns.{PassTurn}
 use Rattle.session_desk.specs.Sessions.{notes_in, passed_journal, with_pass}
-use Rattle.turn_lock.proofs.Logs.{entries_between, prefix_more}
+use Rattle.turn_lock.proofs.Logs.{entries_between}
 use Rattle.turn_lock.specs.Journals.{IsPrefix, entries_by}
 use Rattle.turn_lock.specs.Passes.{Token}
 use Rattle.script_server.proofs.ClosedJournals.{ClosedJournal, asks_none, close_entry}
+use Rattle.script_server.proofs.Closes.{prefix_then}
 use Rattle.script_server.proofs.EndedPasses.{by_others, has_own, in_done, its_entries}
 use Rattle.script_server.proofs.PassLists.{StandsAt, all_back, all_front, none_has, stands_at}
 use Rattle.script_server.specs.Working.Served.{AllEnded, ClientDone, TakenOut}
-
-prefix_then : (xs ys zs : List (ℕ × FullEntry)) → IsPrefix xs ys → IsPrefix ys zs → IsPrefix xs zs
-prefix_then xs ys zs p q = subst (IsPrefix xs) (sym q.1) (prefix_more xs ys q.0 p)
 
 -- nothing is left where the front is all
 none_left : {X : Type 0} (front all back : List X) → front ++ back ≡ all → front ≡ all → back ≡ []

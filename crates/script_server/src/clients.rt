@@ -1,4 +1,4 @@
-ghost use Rattle.std.specs.Prelude.{◌≡◌, ◌<◌, map};
+ghost use Rattle.std.specs.Prelude.{◌<◌, map};
 ghost use Rattle.desk_script.specs.Views.{line_view};
 ghost use Rattle.script_server.specs.Working.Dealing.{IsClientPass};
 ghost use Rattle.script_server.specs.Working.PassLines.{GivesLines};

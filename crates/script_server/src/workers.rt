@@ -1,4 +1,3 @@
-ghost use Rattle.std.specs.Prelude.{◌≡◌};
 ghost use Rattle.script_server.specs.Working.Dealing.{CanStart};
 ghost use Rattle.script_server.specs.Working.PassLines.{MadeWork};
 ghost use Rattle.script_server.specs.Working.Threads.{HasCome, IsWorker};

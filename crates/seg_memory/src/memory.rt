@@ -1,4 +1,4 @@
-ghost use Rattle.std.specs.Prelude.{ℕ, ◌≡◌, ◌<◌, ◌≤◌, length, map, sum, get_or, set, replicate, slice_get, slice_set, option_map, Option, Some, None, Err, IsOk, IfOk, IfErr, OnOk, OnErr, ◌↔◌};
+ghost use Rattle.std.specs.Prelude.{ℕ, ◌≡◌, ◌<◌, ◌≤◌, length, map, sum, replicate, slice_get, slice_set, option_map, Option, Some, None, Err, IsOk, IfOk, OnOk, OnErr, ◌↔◌};
 ghost use Rattle.cairo_model.specs.Limits.{most_cells, most_segments};
 ghost use Rattle.cairo_model.specs.Machine.Values.{Datum};
 ghost use Rattle.cairo_model.specs.Pie.Records.{Rise};

@@ -7,7 +7,7 @@ ghost use Rattle.seg_memory.specs.Memory.{memory_in};
 ghost use Rattle.std.specs.Prelude.{slice_index};
 ghost use Rattle.cairo_model.specs.Segments.{hash_segment};
 ghost use Rattle.seg_runner.specs.Endings.{begun_instances as begun_of, completed, outputs_per_instance, with_outputs, with_words};
-ghost use Rattle.seg_runner.specs.Hashes.{inputs_per_instance, outputs_of as outputs_by};
+ghost use Rattle.seg_runner.specs.Hashes.{outputs_of as outputs_by};
 ghost use Rattle.seg_runner.specs.Views.{run_cause};
 ghost use Rattle.seg_runner.specs.Working.Seen.{growing};
 ghost use Rattle.seg_runner.specs.Working.Running.{HasSevenSizes};

@@ -1,11 +1,9 @@
 //! The values that the rules give.
 
-ghost use Rattle.std.specs.Prelude.{◌≡◌, Ok, Err, option_map, OnOk};
+ghost use Rattle.std.specs.Prelude.{◌≡◌, option_map};
 ghost use Rattle.cairo_model.specs.Views.Machine.{datum, registers};
-ghost use Rattle.cairo_model.specs.Machine.Steps.{value_arithmetic, after as after_of, result_of};
-ghost use Rattle.cairo_model.specs.Machine.Values.{Difference};
+ghost use Rattle.cairo_model.specs.Machine.Steps.{value_arithmetic, after as after_of};
 ghost use Rattle.cairo_word.specs.Instructions.{fields};
-ghost use Rattle.goldi_field.specs.Numbers.{prime};
 ghost use Rattle.seg_runner.specs.Deductions.{Quotient, quotient_of, return_address as return_of, caller_frame as caller_of, deduced_op0 as op0_of, deduced_op1 as op1_of, deduced_dst as dst_of};
 
 use cairo_model::{State, Value, add, mul, size_felt, sub};

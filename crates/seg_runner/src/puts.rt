@@ -1,9 +1,9 @@
 //! Puts of deduced values: only where nothing stands, and only in the segments that may grow.
 
-ghost use Rattle.std.specs.Prelude.{◌≡◌, ◌+◌, ◌<◌, ◌≤◌, ℕ, Ok, Err, None, length, sum, slice_index, option_map, IfOk, OnOk};
+ghost use Rattle.std.specs.Prelude.{◌≡◌, ◌+◌, ◌<◌, ◌≤◌, Ok, Err, None, length, sum, slice_index, option_map, OnOk};
 ghost use Rattle.cairo_model.specs.Limits.{most_cells};
 ghost use Rattle.cairo_model.specs.Views.Machine.{datum};
-ghost use Rattle.seg_memory.specs.Memory.{HoldsSame, cell_of, memory_in};
+ghost use Rattle.seg_memory.specs.Memory.{HoldsSame, cell_of};
 ghost use Rattle.seg_runner.specs.Memories.{may_grow as growth_test, put_at as put_of, put_where_absent as put_absent_of, sizes_with};
 ghost use Rattle.seg_runner.specs.Refusals.{over_size};
 ghost use Rattle.seg_runner.specs.Views.{run_cause};

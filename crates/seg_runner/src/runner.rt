@@ -3,7 +3,7 @@
 ghost use Rattle.std.specs.Prelude.{◌≡◌, ◌<◌, ◌≤◌, Ok, Err, IfOk, length};
 ghost use Rattle.cairo_model.specs.Limits.{most_cells, most_steps, offset_limit};
 ghost use Rattle.cairo_model.specs.Pie.Acceptance.{AcceptedWith, HoldsNumbers};
-ghost use Rattle.cairo_model.specs.Pie.Records.{KeepsRules, segment_size};
+ghost use Rattle.cairo_model.specs.Pie.Records.{segment_size};
 ghost use Rattle.cairo_model.specs.Segments.{program_segment};
 ghost use Rattle.seg_runner.specs.Answers.{IsRunAnswer, IsRunRefusal, RunsToPie};
 ghost use Rattle.seg_runner.specs.Views.{run_cause};

@@ -1,6 +1,6 @@
 //! The run: one step after the other, until it is home.
 
-ghost use Rattle.std.specs.Prelude.{◌≡◌, ◌≤◌, Ok, Err, IfOk, OnOk};
+ghost use Rattle.std.specs.Prelude.{◌≡◌, Ok, Err, IfOk, OnOk};
 ghost use Rattle.cairo_model.specs.Views.Machine.{registers};
 ghost use Rattle.seg_runner.specs.Endings.{is_returned as return_test};
 ghost use Rattle.seg_runner.specs.Views.{run_cause};

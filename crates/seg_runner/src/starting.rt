@@ -1,14 +1,14 @@
 //! What a run begins with: the code, and the frame.
 
-ghost use Rattle.std.specs.Prelude.{◌≡◌, ◌+◌, ◌<◌, map, ◌≤◌, Ok, Err, IfOk, length, None, Some, slice_index, slice_get, ℕ};
+ghost use Rattle.std.specs.Prelude.{◌≡◌, ◌+◌, ◌<◌, map, ◌≤◌, Ok, Err, IfOk, length, None, slice_index, ℕ};
 ghost use Rattle.cairo_model.specs.Limits.{most_cells, offset_limit};
 ghost use Rattle.cairo_model.specs.Machine.Values.{number as numeral, place};
-ghost use Rattle.cairo_model.specs.Segments.{builtin_mask, frame_segments, program_segment, execution_segment};
+ghost use Rattle.cairo_model.specs.Segments.{program_segment, execution_segment};
 ghost use Rattle.cairo_model.specs.Views.Machine.{datum, registers};
-ghost use Rattle.seg_memory.specs.Memory.{IsPut, cell_of, size_of, memory_in, IsEmpty};
+ghost use Rattle.seg_memory.specs.Memory.{IsPut, cell_of, size_of, memory_in};
 ghost use Rattle.seg_runner.specs.Starts.{frame_length, start_memory as memory_begun, start_registers, started};
 ghost use Rattle.seg_runner.specs.Views.{run_cause};
-ghost use Rattle.seg_runner.specs.Working.Seen.{growing, configuration};
+ghost use Rattle.seg_runner.specs.Working.Seen.{growing};
 ghost use Rattle.seg_runner.specs.Working.Running.{HasSevenSizes, with_row, frame_values};
 
 use crate::refusal::RunRefusal;

@@ -1,7 +1,6 @@
 //! One step: the puts of the rules in their order, and then the machine's transition.
 
 ghost use Rattle.std.specs.Prelude.{◌≡◌, Ok, Err, IfOk, OnOk, option_map, true};
-ghost use Rattle.cairo_model.specs.Machine.Steps.{value_arithmetic};
 ghost use Rattle.cairo_model.specs.Views.Machine.{datum, registers};
 ghost use Rattle.seg_memory.specs.Memory.{memory_in};
 ghost use Rattle.cairo_word.specs.Instructions.{fields};

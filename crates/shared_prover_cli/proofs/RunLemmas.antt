@@ -1,11 +1,11 @@
 -- What the code of a text has, its main entry no further than behind its words; and that a PIE that is written is admitted.
-use Rattle.std.proofs.Common.{◌≡◌, ℕ, ◌+◌, ◌<◌, ◌≤◌, Bool, true, false, if◌then◌else◌, List, [], ◌∷◌, length, Option, Some, None, Ok, Err, codes, ap, sym, subst, ◌∙◌, arith}
+use Rattle.std.proofs.Common.{◌≡◌, ℕ, ◌+◌, ◌<◌, ◌≤◌, Bool, true, false, if◌then◌else◌, List, [], ◌∷◌, length, Option, Some, None, Ok, Err, codes, ap, subst, ◌∙◌, arith}
 use Rattle.std.proofs.lemmas.List.{length-append}
 use Rattle.std.specs.Option.{unwrap_or}
 use Rattle.cairo_model.specs.Limits.{most_cells, offset_limit}
 use Rattle.cairo_model.specs.Pie.Acceptance.{CheckedRecord}
 use Rattle.cairo_model.specs.Refusals.Verdicts.{IsVerdict, admitted}
-use Rattle.casm_text.specs.Lines.{Line, empty_line, label_line, statement_line, is_label, label_at, label_offset, line_size, statement_size, GivesFrom}
+use Rattle.casm_text.specs.Lines.{Line, empty_line, label_line, statement_line, is_label, label_at, label_offset, statement_size, GivesFrom}
 use Rattle.casm_text.specs.Refusals.{Assembles}
 use Rattle.casm_text.proofs.Relists.{gives_size}
 use Rattle.shared_prover_cli.specs.Answers.Run.{TextOutcome, IsOutcomeOf, no_code, ran}

@@ -1,5 +1,5 @@
 -- A reply with no desk, as what is told.
-use Rattle.std.proofs.Common.{◌≡◌, ◌≢◌, Bool, false, [], Result, Ok, Err, ap, refl, subst, sym}
+use Rattle.std.proofs.Common.{◌≡◌, Bool, false, [], Result, Ok, Err, ap, refl, subst, sym}
 use Rattle.shared_prover_cli.specs.Commands.{AnswerOf, reads_input}
 use Rattle.shared_prover_cli.specs.Runs.{HasInput, ReadsWithin, Stream}
 use Rattle.shared_prover_cli.specs.Working.Replies.{reply_view}

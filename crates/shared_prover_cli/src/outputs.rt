@@ -1,4 +1,4 @@
-ghost use Rattle.std.specs.Prelude.{◌≡◌, map, IfOk};
+ghost use Rattle.std.specs.Prelude.{map, IfOk};
 ghost use Rattle.cairo_model.specs.Certificate.Acceptance.{MachineAccepts, SpanHolds};
 
 use cairo_model::{Cert, felt_below};

@@ -1,4 +1,4 @@
-ghost use Rattle.std.specs.Prelude.{◌≡◌, ◌∷◌, ◌++◌, ◌<◌, ◌^◌, [], IfOk, OnOk, length};
+ghost use Rattle.std.specs.Prelude.{◌≡◌, ◌++◌, ◌<◌, ◌^◌, IfOk, OnOk, length};
 ghost use Rattle.desk_core.specs.GoodDesks.{IsGoodDesk};
 ghost use Rattle.desk_script.specs.Transcripts.{steps_of_jobs};
 ghost use Rattle.shared_prover_cli.specs.Answers.Scripts.{bad_line_text, count_line, few_batches_text, trial_text};

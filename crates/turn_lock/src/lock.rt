@@ -1,4 +1,4 @@
-ghost use Rattle.std.specs.Prelude.{◌≡◌, ℕ, ◌<◌, ◌≤◌, [], ◌∷◌, map, vec_len, All, Contains, IfOk};
+ghost use Rattle.std.specs.Prelude.{◌≡◌, ℕ, ◌<◌, ◌≤◌, [], map, vec_len, All, IfOk};
 ghost use Rattle.std.specs.List.{range_with_len};
 ghost use Rattle.turn_lock.specs.Journals.{entries_by, IsPrefix, longer};
 ghost use Rattle.turn_lock.specs.Views.{newcomer, all_parts};

@@ -10,7 +10,6 @@ use Rattle.desk_core.specs.Quotas.{is_admitted}
 use Rattle.desk_core.specs.Turns.{IsNewDesk, IsTurn}
 use Rattle.desk_core.specs.declared.event.Event.TheVariants as event
 use Rattle.desk_core.specs.declared.event.OfferNote.{OfferNote}
-use Rattle.desk_core.specs.declared.phase.Phase.{Phase}
 use Rattle.desk_core.specs.declared.phase.Phase.TheVariants as phase
 use Rattle.desk_core.specs.declared.reply.Reply.{Reply}
 use Rattle.batch_workers.specs.Works.{IsIdle}

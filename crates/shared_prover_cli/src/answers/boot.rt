@@ -1,5 +1,4 @@
 ghost use Rattle.std.specs.Prelude.{◌≡◌, ◌++◌, IfOk, OnOk};
-ghost use Rattle.boot_program.specs.Places.{entry_pc};
 ghost use Rattle.shared_prover_cli.specs.Answers.Boot.{BootAnswer, word_digits as digits_of_word, word_line, word_lines as lines_of_words};
 ghost use Rattle.shared_prover_cli.specs.Working.Replies.{reply_view};
 

@@ -1,4 +1,4 @@
-use Rattle.std.proofs.Common.{◌≡◌, ◌+◌, ◌<◌, ◌≤◌, length, below_more, rules, arith}
+use Rattle.std.proofs.Common.{◌<◌, length, below_more, rules, arith}
 use Rattle.boot_program.specs.Words.{boot_words}
 use Rattle.cairo_model.specs.Machine.FieldMemories.{cell_at}
 use Rattle.row_checker.proofs.Booting.{before_word, other_there, whole_boot}

@@ -1,4 +1,4 @@
-use Rattle.std.proofs.Common.{◌≡◌, ℕ, zero, suc, ◌+◌, ◌-◌, ◌<◌, ◌≤◌, List, length, map, Option, Some, None, sym, subst, ap, ◌∙◌, rules, arith}
+use Rattle.std.proofs.Common.{◌≡◌, ℕ, zero, suc, ◌+◌, ◌-◌, ◌<◌, length, map, Option, Some, None, subst, rules, arith}
 use Rattle.std.proofs.lemmas.List.{length-map}
 use Rattle.cairo_model.specs.Views.Machine.{field_registers}
 use Rattle.row_checker.specs.Working.Walks.{AllGood, IsAnswer, IsFirstBad, Leads}

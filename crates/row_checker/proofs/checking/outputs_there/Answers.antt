@@ -1,4 +1,4 @@
-use Rattle.std.proofs.Common.{◌≡◌, ℕ, ◌+◌, ◌<◌, None, Option, refl, rules, subst}
+use Rattle.std.proofs.Common.{◌≡◌, ℕ, ◌+◌, None, refl, rules, subst}
 use Rattle.cairo_model.specs.Certificate.Records.{CertRecord}
 use Rattle.cairo_model.specs.Machine.FieldMemories.{cell_at}
 use Rattle.cairo_model.specs.Refusals.FirstFailing.{IsFirstFailing}

@@ -1,7 +1,6 @@
-use Rattle.std.proofs.Common.{◌≡◌, ℕ, ◌+◌, ◌*◌, ◌<◌, subst}
+use Rattle.std.proofs.Common.{ℕ, ◌+◌, ◌*◌, subst}
 use Rattle.cairo_model.specs.Certificate.Records.{CertRecord}
 use Rattle.cairo_model.specs.Machine.FieldMemories.{cell_at}
-use Rattle.cairo_model.specs.Refusals.FirstFailing.{IsFirstFailing}
 use Rattle.boot_program.specs.Faults.Causes.{IsRunCause}
 use Rattle.boot_program.specs.Faults.Records.{at_hash, at_range}
 use Rattle.boot_program.specs.Faults.Rules.{IsInSpan, RangeCellAt, WholeInstanceAt}

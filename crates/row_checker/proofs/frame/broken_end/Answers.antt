@@ -1,4 +1,4 @@
-use Rattle.std.proofs.Common.{◌≡◌, ◌<◌, length, map, ap, ◌∙◌, arith}
+use Rattle.std.proofs.Common.{◌<◌, length, map, ap, ◌∙◌, arith}
 use Rattle.cairo_model.specs.Certificate.Records.{CertRecord}
 use Rattle.cairo_model.specs.Views.Machine.{field_registers}
 use Rattle.row_checker.proofs.Frames.{end_broken, end_kept}

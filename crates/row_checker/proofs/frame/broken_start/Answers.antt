@@ -1,4 +1,4 @@
-use Rattle.std.proofs.Common.{◌≡◌, ◌<◌, length, map, rules, ap, ◌∙◌}
+use Rattle.std.proofs.Common.{◌<◌, length, map, rules, ap, ◌∙◌}
 use Rattle.cairo_model.specs.Certificate.Records.{CertRecord}
 use Rattle.cairo_model.specs.Views.Machine.{field_registers}
 use Rattle.row_checker.proofs.Frames.{start_broken, start_kept}

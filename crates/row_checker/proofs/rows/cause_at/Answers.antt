@@ -1,4 +1,4 @@
-use Rattle.std.proofs.Common.{◌<◌, ◌+◌, arith}
+use Rattle.std.proofs.Common.{◌+◌, arith}
 use Rattle.cairo_model.specs.Views.Machine.{field_registers}
 use Rattle.row_checker.proofs.Walking.{leads_so, viewed}
 use Rattle.row_checker.proofs.rows.cause_at.Goals as goal

@@ -1,6 +1,6 @@
 use Rattle.std.proofs.Common.{map, ap, ◌∙◌}
 use Rattle.cairo_model.specs.Certificate.Records.{CertRecord, MarkRecord}
-use Rattle.cairo_model.specs.Views.Machine.{field_registers, registers}
+use Rattle.cairo_model.specs.Views.Machine.{field_registers}
 use Rattle.row_checker.proofs.Showing.{says_stretch}
 use Rattle.row_checker.proofs.tasks.has_states.Goals as goal
 

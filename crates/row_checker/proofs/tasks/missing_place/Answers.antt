@@ -1,4 +1,4 @@
-use Rattle.std.proofs.Common.{◌≡◌, slice_get, Some, None, IfNone, IfSome, rules}
+use Rattle.std.proofs.Common.{◌≡◌, slice_get, Some, None, rules}
 use Rattle.boot_program.specs.Faults.Tasks.{ShowsTask, TaskStands}
 use Rattle.row_checker.specs.Working.Tasks.{ShowsPlaced, StandsAt}
 use Rattle.row_checker.proofs.Frames.{if_none, if_some}

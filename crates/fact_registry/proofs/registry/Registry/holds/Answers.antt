@@ -1,4 +1,4 @@
-use Rattle.std.proofs.Common.{◌≡◌, List, Contains, IsTrue, sym, subst, ◌∙◌}
+use Rattle.std.proofs.Common.{List, Contains, IsTrue, sym, subst, ◌∙◌}
 use Rattle.cairo_model.specs.Pie.Acceptance.{FactRecord}
 use Rattle.fact_registry.proofs.FactLists.{found_is_there, there_is_found}
 use Rattle.fact_registry.proofs.registry.Registry.holds.Goals as goal

@@ -1,4 +1,3 @@
-use Rattle.desk_script.specs.Views.{line_view}
 use Rattle.shared_prover_cli.proofs.ScriptLemmas.{lines_below_clients}
 use Rattle.shared_prover_cli.proofs.answers.scripts.ran.Goals as goal
 

@@ -1,5 +1,5 @@
-use Rattle.std.proofs.Common.{◌≡◌, [], ◌∷◌, rules, ap, sym, subst, ◌∙◌}
-use Rattle.turn_lock.specs.Views.{hearing, settled}
+use Rattle.std.proofs.Common.{rules, ap, ◌∙◌}
+use Rattle.turn_lock.specs.Views.{settled}
 use Rattle.turn_lock.proofs.Logs.{settles_own}
 use Rattle.turn_lock.proofs.Permitted.{copies, hears, learns}
 use Rattle.turn_lock.proofs.lock.TurnLock.meet.Goals as goal
