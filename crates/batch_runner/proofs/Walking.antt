@@ -6,9 +6,6 @@ use Rattle.cairo_model.proofs.RunLaws.{no_longer_run, runs_on, same_runs}
 use Rattle.batch_runner.specs.Working.Stepping.{HasWalked, IsRunOver}
 
 module _ (m : ℕ → Option ℕ) (s : Registers ℕ) where
-  pub set_out : HasWalked m 0 s (s ∷ []) s
-  set_out = record { runs = (refl, (tt, refl)); count = refl }
-
   module _ (n : ℕ) (states : List (Registers ℕ)) (now : Registers ℕ) (walked : HasWalked m n s states now) where
     pub walked_on : (next : Registers ℕ) → Step field_arithmetic m now next → HasWalked m (n + 1) s (states ++ next ∷ []) next
     walked_on next step = record {

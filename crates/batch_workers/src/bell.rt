@@ -9,6 +9,7 @@ pub struct Bell {
 }
 
 impl Bell {
+    /// A bell that hasn't rung, on which nobody waits.
     pub fn new() -> Bell {
         Bell {
             rings: Mutex::new(0),

@@ -14,13 +14,9 @@ use batch_runner::Maker;
 use boot_program::{Certified, Parcel, RunFault};
 use cairo_model::End;
 use desk_core::{Desk, RegisterEnd, Reply};
-use row_checker::{certified_has_no_fault, certify};
+use row_checker::{CHUNKS, certified_has_no_fault, certify};
 use std::alloc::{AllocError, Global};
 use std::thread::Threads;
-
-/// In how many chunks the rows of a batch's certificate are checked. A second thread was worth nothing to a worker alone, and cost
-/// those beside it (docs/BENCHMARK.md, 'Serving').
-const CHUNKS: usize = 1;
 
 /// How often it is tried again to give a batch back, where memory is wanted.
 pub(crate) const MOST_RETRIES: u32 = 64;

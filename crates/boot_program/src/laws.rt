@@ -6,6 +6,7 @@ ghost use Rattle.boot_program.specs.Places.{entry_pc};
 ghost use Rattle.boot_program.specs.Words.{boot_calls, boot_code, boot_end, boot_words};
 
 use crate::limits::{MOST_BATCH_CELLS, MOST_BATCH_STEPS, MOST_BATCH_TASKS, MOST_BOOT_WORDS};
+use crate::words::BOOT_ENTRY;
 
 /// The limits of the code are those of the definitions; the words are few, the first at the entry, and the end after the last.
 pub fn boot_constants()
@@ -14,6 +15,7 @@ pub fn boot_constants()
     ensures cells { MOST_BATCH_CELLS ≡ most_batch_cells }
     ensures words { MOST_BOOT_WORDS ≡ most_boot_words }
     ensures few { length boot_words ≤ most_boot_words }
+    ensures entry { BOOT_ENTRY ≡ entry_pc }
     ensures end { boot_end ≡ entry_pc + length boot_words }
 {}
 

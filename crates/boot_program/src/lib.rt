@@ -15,4 +15,4 @@ pub use laws::{
 };
 pub use parcel::Parcel;
 pub use run_fault::{RowCause, RunFault};
-pub use words::{BOOT, BOOT_CALLS, BOOT_END, boot_words};
+pub use words::{BOOT, BOOT_CALLS, BOOT_END, BOOT_ENTRY, boot_words};

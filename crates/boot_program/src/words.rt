@@ -122,6 +122,9 @@ pub const BOOT: [u64; 117] = [
     0x208b_7fff_7fff_7ffe,
 ];
 
+/// The address of the first word, where a batch's run begins.
+pub const BOOT_ENTRY: u64 = 1;
+
 /// The address after the last word, where a batch's run ends.
 pub const BOOT_END: u64 = 118;
 

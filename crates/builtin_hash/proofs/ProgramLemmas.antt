@@ -1,5 +1,5 @@
 -- Facts on program hashes: the header's group, and the text of a hash.
-use Rattle.std.proofs.Common.{◌≡◌, ℕ, zero, suc, ◌+◌, ◌*◌, ◌<◌, ◌^◌, ◌-◌, List, [], ◌∷◌, length, nat_lt, slice_index, refl, ap, ◌∙◌, lit<, arith}
+use Rattle.std.proofs.Common.{◌≡◌, ℕ, zero, suc, ◌+◌, ◌<◌, ◌^◌, ◌-◌, List, [], ◌∷◌, length, nat_lt, slice_index, refl, ap, ◌∙◌, lit<, arith}
 use Rattle.std.specs.Result.{result_unwrap_or}
 use Rattle.std.specs.Str.{IsAscii}
 use Rattle.std.proofs.lemmas.Bool.{ltb-true}
@@ -7,7 +7,7 @@ use Rattle.std.proofs.lemmas.List.Sums.{AllPass-from_list_all}
 use Rattle.std.proofs.lemmas.Nat.{from_be_bytes-to_be_bytes_4}
 use Rattle.std.proofs.lemmas.Str.Ascii.{IsAscii-from_all}
 use Rattle.hex.specs.Hex.{lower_digits}
-use Rattle.hex.proofs.HexLemmas.{IsAscii-encode_with, decode_of-encode_lower, length-encode_with}
+use Rattle.hex.proofs.HexLemmas.{IsAscii-encode_with, decode_of-encode_lower}
 use Rattle.builtin_hash.specs.Instances.{AreWords, instance_of, words_of}
 use Rattle.builtin_hash.specs.Chains.{chain_from, chain_start, groups_of}
 use Rattle.builtin_hash.specs.Programs.{hash_bytes, hash_text, program_hash_of, program_numbers, words_in_text}
@@ -29,18 +29,6 @@ IsAscii-hash_text words =
     let lower : IsAscii lower_digits =
     IsAscii-from_all lower_digits (λ k other inside. ltb-true _ _ (passes k other inside)) in
     IsAscii-encode_with lower_digits (hash_bytes words) lower
-
-length-hash_bytes : (words : List ℕ) → length (hash_bytes words) ≡ 4 * length words
-length-hash_bytes [] = refl
-length-hash_bytes (word ∷ rest) = let e = length-hash_bytes rest in omega (arith, e)
-
--- a hash's text has 64 digits
-pub length-hash_text : (words : List ℕ) → AreWords words → length (hash_text words) ≡ 64
-length-hash_text words are =
-    let digits = length-encode_with lower_digits (hash_bytes words) in
-    let bytes = length-hash_bytes words in
-    let eight = are.eight in
-    omega (arith, digits, bytes)
 
 hash_bytes_fit : (words : List ℕ) (i : ℕ) → slice_index (hash_bytes words) i < 256
 hash_bytes_fit [] i = lit< tt

@@ -7,6 +7,7 @@ ghost use Rattle.builtin_range.specs.Ranges.{IsRangeCell, IsFirstOutOfRange};
 /// Range cells hold numbers below this one.
 pub const RANGE_LIMIT: u64 = 1 << 32;
 
+/// Whether the number may stand in a range cell: whether it is below 2^32.
 pub fn in_range(n: u64) -> bool
     ensures { IsTrue result ↔ IsRangeCell n }
 {

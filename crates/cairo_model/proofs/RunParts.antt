@@ -96,14 +96,6 @@ module _ {V : Type 0} (A : Arithmetic V) (m : V → Option V) where
   pub ends_at : (n : ℕ) {s t u : Registers V} {ts : List (Registers V)} → Passes A m n s ts t → t ≡ u → Passes A m n s ts u
   ends_at n by same = record { count = by.count; runs = by.runs; ends = by.ends ∙ same }
 
-  -- a long run goes through its first part, and on
-  pub goes_through : {s t : Registers V} {rows rest : List (Registers V)} → last_of s rows ≡ t → RunFrom A m s (rows ++ rest) → GoesOn A m s t rows (rows ++ rest) rest
-  goes_through {s} {t} {rows} {rest} ends run = record {
-    parts = refl;
-    runs = subst (λ (x : Registers V). RunFrom A m x rest) ends (runs_part s rows rest run).1;
-    to_end = ap (λ (x : Registers V). last_of x rest) (sym ends) ∙ sym (ends_join s rows rest);
-  }
-
   -- two parts of a long run
   pub and_then : {s t u : Registers V} {rows more ts us rest : List (Registers V)} → GoesOn A m s t rows ts us → GoesOn A m t u more us rest → GoesOn A m s u (rows ++ more) ts rest
   and_then {rows = rows} {more = more} {rest = rest} first second = record {

@@ -3,9 +3,6 @@ use Rattle.std.proofs.Common.{◌≡◌, ◌≢◌, ◌↔◌, ℕ, ◌+◌, ◌
 use Rattle.std.proofs.lemmas.Bool.Decides.{nat_tests}
 use Rattle.cairo_model.specs.Pie.Layouts.{ShareNone}
 
-pub share_none_below : (b s c t : ℕ) → b + s ≤ c → ShareNone b s c t
-share_none_below b s c t le o q p r e = omega arith
-
 pub share_none_above : (b s c t : ℕ) → c + t ≤ b → ShareNone b s c t
 share_none_above b s c t le o q p r e = omega arith
 

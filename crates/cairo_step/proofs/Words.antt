@@ -24,9 +24,6 @@ bit_below false = lit< tt
 flag_bit : (w place : ℕ) → bit (flag_in w place) ≡ w / 2 ^ place % 2
 flag_bit w place = bit_back (w / 2 ^ place % 2) (mod-lt _ (lit< tt))
 
-flag_back : (w place n : ℕ) → n < 2 → w / 2 ^ place % 2 ≡ n → bit (flag_in w place) ≡ n
-flag_back w place n less is = flag_bit w place ∙ is
-
 pub parts_back : (p : WordParts) → AreParts p → parts_of (split_of (word_of p)) ≡ p
 parts_back p are =
     let w = word_of p in
@@ -136,9 +133,6 @@ register_is : (n : ℕ) → n < 2 → register_of n ≡ (if n == 1 then Fp else 
 register_is zero less = refl
 register_is (suc zero) less = refl
 register_is (suc (suc n)) less = absurd (omega arith)
-
-group_of_two : (w k : ℕ) (a b : ℕ) → a ≡ w / 2 ^ k % 2 → b ≡ w / 2 ^ k / 2 % 2 → w / 2 ^ k % 2 ^ 2 ≡ a + 2 * b
-group_of_two w k a b is_a is_b = omega arith
 
 pub fields_are : (w : ℕ) → fields_of w ≡ fields_in (split_of w)
 fields_are w =

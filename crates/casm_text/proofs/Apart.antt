@@ -6,14 +6,11 @@ use Rattle.casm_text.specs.Tokens.{begins_with_letter, is_digits}
 use Rattle.casm_text.proofs.Tokenizing.{goes_along, starts_anew, apart, tokens_apart, and_both}
 use Rattle.cairo_word.specs.declared.word.Reg.{Reg}
 use Rattle.cairo_word.specs.declared.word.Reg.TheVariants.{Ap, Fp}
-use Rattle.std.proofs.Common.{◌≡◌, ℕ, ◌==◌, ◌≤◌, Bool, true, false, not, ◌&&◌, List, [], ◌∷◌, ◌++◌, refl, arith, rules}
+use Rattle.std.proofs.Common.{◌≡◌, ℕ, ◌==◌, Bool, true, false, not, ◌&&◌, List, [], ◌∷◌, ◌++◌, refl, arith, rules}
 use Rattle.std.specs.Prelude.{codes, bytes_eq}
 use Rattle.std.specs.List.{list_all, list_any}
 use Rattle.std.proofs.lemmas.Bool.{false≢true}
 use Rattle.std.proofs.lemmas.Bool.Decides.{nat_tests}
-
-digit_bounds : (d : ℕ) → is_digit d ≡ true → (48 ≤ d) × (d ≤ 57)
-digit_bounds d h = search rules
 
 digit_no_letter : (d : ℕ) → is_digit d ≡ true → is_letter d ≡ false
 digit_no_letter d h = grind (arith, nat_tests)
@@ -30,9 +27,6 @@ plus_fresh d h = grind (arith, nat_tests)
 
 minus_fresh : (d : ℕ) → is_digit d ≡ true → goes_on (codes "-") d ≡ false
 minus_fresh d h = refl
-
-nothing_fresh : (d : ℕ) → goes_on [] d ≡ false
-nothing_fresh d = refl
 
 -- ---- digits and names
 

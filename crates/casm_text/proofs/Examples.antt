@@ -1,6 +1,6 @@
 -- The definitions at a few texts, by computing.
 use Rattle.casm_text.specs.Working.Tokenizing.{tokens_of_line}
-use Rattle.casm_text.specs.Statements.{plus, minus, double, Statement, assert, statement_text}
+use Rattle.casm_text.specs.Statements.{plus, minus, double, Statement, assert, statement_text, tokens_of}
 use Rattle.cairo_word.specs.declared.word.Reg.TheVariants.{Ap, Fp}
 use Rattle.std.proofs.Common.{◌≡◌, ℕ, List, [], ◌∷◌, true, refl}
 use Rattle.std.specs.Prelude.{codes}

@@ -169,9 +169,3 @@ parse_statement (call_abs x) h = ap (λ r. then_read r (λ x a. ended (call_abs 
 parse_statement ret h = refl
 parse_statement (add_ap x) h = ap (λ r. then_read r (λ x b. ended (add_ap x) b)) (parse_operand x [] h)
 parse_statement (word n) h = ap (λ r. then_read r (λ n a. ended (word n) a)) (parse_numeral n [] h)
-
--- two statements with the same tokens are one
-pub same_statement : (s t : Statement) → is_spelled s ≡ true → is_spelled t ≡ true → tokens_of s ≡ tokens_of t → s ≡ t
-same_statement s t h k same =
-    let both : Some s ≡ Some t = sym (parse_statement s h) ∙ (ap statement_in same ∙ parse_statement t k) in
-    cc

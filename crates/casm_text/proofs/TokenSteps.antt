@@ -92,6 +92,3 @@ few_more found begun = omega (arith, length-append found (whole_token begun), on
 pub first_tokens : (found rest all : List (List ℕ)) → found ++ rest ≡ all → length found ≡ most_tokens + 1 → found ≡ take (most_tokens + 1) all
 first_tokens found rest all told count =
     sym (take_all (most_tokens + 1) found (omega (arith, count))) ∙ (sym (take-append-le (most_tokens + 1) found rest (omega (arith, count))) ∙ ap (λ (ts : List (List ℕ)). take (most_tokens + 1) ts) told)
-
-pub all_tokens : (found all : List (List ℕ)) → found ≡ all → length found ≤ most_tokens + 1 → found ≡ take (most_tokens + 1) all
-all_tokens found all told count = sym (take_all (most_tokens + 1) found count) ∙ ap (λ (ts : List (List ℕ)). take (most_tokens + 1) ts) told

@@ -27,15 +27,6 @@ offset_none : (lines : List Line) → 0 ≡ offset_at 0 lines 0
 offset_none [] = refl
 offset_none (line ∷ lines) = refl
 
-pub written_none : (text : List ℕ) → Written text [] (lines_of text) 0
-written_none text = record {
-  walk = record { within = omega arith; left_is = refl };
-  before = λ k below. absurd (omega arith);
-  few = omega arith;
-  at = offset_none (known_lines (lines_of text));
-  told = λ rest h. h;
-}
-
 good_is : (text words bytes : List ℕ) (index : ℕ) (good : Bool) → length words ≡ offset_at 0 (known_lines (lines_of text)) index → line_at (known_lines (lines_of text)) index ≡ known_line bytes → good ≡ range_good (length words) (known_line bytes)
     → range_good (offset_at 0 (known_lines (lines_of text)) index) (line_at (known_lines (lines_of text)) index) ≡ good
 good_is text words bytes index good at line told =

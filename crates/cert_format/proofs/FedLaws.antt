@@ -24,13 +24,6 @@ size_small (End start) = omega arith
 pub goes_nowhere : (p : Partial) (bytes : List ℕ) → IsReady p → Goes p bytes p bytes
 goes_nowhere p bytes ready = record { ready = ready; many = refl; answers = λ more. refl }
 
-pub goes_from : (p : Partial) (bytes : List ℕ) (q : Partial) (rest : List ℕ) (r : Partial) (last : List ℕ) → Goes p bytes q rest → Goes q rest r last → Goes p bytes r last
-goes_from p bytes q rest r last first second = record {
-  ready = second.ready;
-  many = second.many ∙ first.many;
-  answers = λ more. first.answers more ∙ second.answers more;
-}
-
 -- the next part is taken
 pub takes_part : (p : Partial) (bytes : List ℕ) (q : Partial) (rest part behind : List ℕ) (new : Partial) → Goes p bytes q rest → rest ≡ part ++ behind → length part ≡ size_of q.stage → 0 < size_of q.stage → new ≡ taken q part → Goes p bytes new behind
 takes_part p bytes q rest part behind new so_far split len some is =

@@ -101,11 +101,6 @@ kept_place (Some e) p r keep same = refl
 kept_place None p (Ok x) keep same = same x.0
 kept_place None p (Err e) keep same = refl
 
-pub kept_end : {A : Type 0} (bad : Option CertRefusal) (p : Partial) (r : Reads A) (keep : A → Partial) → ((a : A) → (keep a).marks_end ≡ p.marks_end) → (noting bad p r keep).marks_end ≡ p.marks_end
-kept_end (Some e) p r keep same = refl
-kept_end None p (Ok x) keep same = same x.0
-kept_end None p (Err e) keep same = refl
-
 -- ---- cells
 
 cells_same : (p : Partial) (n : ℕ) (u t : List ℕ) → length u ≡ 16 → noted p.bad (parts_from (p.place + 16 + length t) p (Cells (suc n)) (u ++ t)) ≡ noted (cell_kept p u).bad (parts_from (p.place + 16 + length t) (cell_kept p u) (Cells n) t)

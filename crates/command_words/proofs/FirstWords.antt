@@ -1,5 +1,5 @@
 -- A first word is known by its spelling.
-use Rattle.std.proofs.Common.{◌≡◌, ◌≢◌, ◌+◌, ◌*◌, ℕ, true, arith, ap, get_or, refl, codes}
+use Rattle.std.proofs.Common.{◌≡◌, ◌+◌, ◌*◌, ℕ, true, arith, ap, get_or, refl}
 use Rattle.clap.specs.Faults.{is_simple_and_free}
 use Rattle.clap.specs.Simple.{is_simple}
 use Rattle.clap.specs.Walk.{Text}
@@ -81,29 +81,3 @@ free_reading first_words.Batch = refl
 free_reading first_words.Export = refl
 free_reading first_words.Trial = refl
 free_reading first_words.Serve = refl
-
--- a word that is none of these
-module _ (word : Text)
-    (replay : word ≢ codes "replay")
-    (place : word ≢ codes "place")
-    (list : word ≢ codes "list")
-    (check : word ≢ codes "check")
-    (run : word ≢ codes "run")
-    (boot : word ≢ codes "boot")
-    (make : word ≢ codes "make")
-    (batch : word ≢ codes "batch")
-    (export : word ≢ codes "export")
-    (trial : word ≢ codes "trial")
-    (serve : word ≢ codes "serve") where
-  pub no_first_word : (first : FirstWord) → word ≢ spelling_of first
-  no_first_word first_words.Replay = replay
-  no_first_word first_words.Place = place
-  no_first_word first_words.List = list
-  no_first_word first_words.Check = check
-  no_first_word first_words.Run = run
-  no_first_word first_words.Boot = boot
-  no_first_word first_words.Make = make
-  no_first_word first_words.Batch = batch
-  no_first_word first_words.Export = export
-  no_first_word first_words.Trial = trial
-  no_first_word first_words.Serve = serve

@@ -3,7 +3,7 @@ use Rattle.std.proofs.Common.{◌≡◌, ℕ, ◌+◌, ◌-◌, ◌==◌, ◌≤
 use Rattle.std.proofs.lemmas.List.{take_rest}
 use Rattle.std.proofs.lemmas.List.Sums.{position_or_len_is}
 use Rattle.std.proofs.lemmas.List.Splits.{length-slice_split, slice_split_first}
-use Rattle.desk_script.specs.Working.Reading.{ask_fields, one_in}
+use Rattle.desk_script.specs.Working.Reading.{one_in}
 use Rattle.memchr.specs.Find.{IsFirstByte, is_byte}
 use Rattle.std.specs.List.{onto_first, position_or_len, slice_split}
 
@@ -42,6 +42,3 @@ pub not_one : (c : ℕ) (first xs : List ℕ) → one_in (first ∷ slice_split 
 not_one c first xs = some_parts first (slice_split (λ x. x == c) xs) (omega (arith, length-slice_split (λ x. x == c) xs))
 
 -- ---- two parts or more
-
-ask_some : (client : List ℕ) (xs : List (List ℕ)) (hash : List ℕ) (outputs : List (List ℕ)) → xs ≡ hash ∷ outputs → ask_fields (client ∷ xs) ≡ Some (record { client = client; hash = hash; outputs = outputs })
-ask_some client xs hash outputs is = rw is refl

@@ -1,7 +1,7 @@
 -- The calling convention of a PIE's isolated run, carried over to each field memory that has the relocated cells. It asks for
 -- as many bases as segments, wherever they lie.
 use Rattle.std.proofs.Common.{◌≡◌, ℕ, ◌-◌, ◌<◌, List, length, slice_index, Option, Some, sym, ap, subst, ◌∙◌, arith}
-use Rattle.goldi_field.specs.Numbers.{prime, IsFelt, difference_of}
+use Rattle.goldi_field.specs.Numbers.{IsFelt, difference_of}
 use Rattle.cairo_model.specs.Machine.Addresses.{down, found_below}
 use Rattle.cairo_model.specs.Machine.Values.{Datum, number, place, Difference}
 use Rattle.cairo_model.specs.Machine.Steps.{value_arithmetic}
@@ -20,11 +20,6 @@ use Rattle.relocator.proofs.RunsPlaced.{starts_inside}
 -- an address below, as a difference
 pub down_is : (a n : ℕ) → IsFelt n → down a n ≡ difference_of a n
 down_is a n small = omega (arith, small)
-
--- a relocated value is a field number
-pub relocated_felt : (bases : List ℕ) (segments : ℕ) (v : Datum) → IsValueIn segments v → relocated bases v < prime
-relocated_felt bases segments (number n) is = is
-relocated_felt bases segments (place s o) is = omega arith
 
 module _ (checked : CheckedRecord) (accepted : AcceptedWith checked.pie checked.fact checked.states) where
   pub start_inside : AreIn (length checked.pie.sizes) (start_of checked.pie)

@@ -1,5 +1,5 @@
 -- The rules of the start and of the end, at the first and the last state.
-use Rattle.std.proofs.Common.{◌≡◌, ℕ, ◌-◌, List, [], ◌∷◌, length, Option, Some, None, IfNone, IfSome, subst, arith}
+use Rattle.std.proofs.Common.{ℕ, ◌-◌, length, Option, Some, None, IfNone, IfSome, subst}
 use Rattle.cairo_model.specs.Certificate.Records.{CertRecord}
 use Rattle.cairo_model.specs.Machine.Runs.{IsState}
 use Rattle.cairo_model.specs.Machine.Steps.{Registers}
@@ -59,15 +59,3 @@ module _ (cert : CertRecord) (first : Registers ℕ) (is_first : IsState cert.st
 
     pub end_broken : (o : Option ℕ) → IfSome o (IsFirstFailing IsEndRule Ends) → IfSome o (IsFirstFailing IsEndRule (KeepsEndRule cert))
     end_broken o = if_some (IsFirstFailing IsEndRule Ends) (IsFirstFailing IsEndRule (KeepsEndRule cert)) o end_fails
-
--- where the first rule is broken, there is no state
-pub no_state : (cert : CertRecord) → length cert.states ≡ 0 → IsFirstFailing IsStartRule (KeepsStartRule cert) 0
-no_state cert none = record {
-  inside = omega arith;
-  fails = λ kept. absurd (no_element cert.states kept.0 none kept.1.0);
-  before = λ k lt. absurd (omega (arith, lt));
-}
-  where
-    no_element : (states : List (Registers ℕ)) (s : Registers ℕ) → length states ≡ 0 → IsState states 0 s → ⊥
-    no_element [] s none is = absurd (cc)
-    no_element (t ∷ ts) s none is = absurd (omega (arith, none))

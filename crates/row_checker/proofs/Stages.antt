@@ -4,7 +4,7 @@ use Rattle.cairo_model.specs.Certificate.Records.{CertRecord, alone, batch}
 use Rattle.cairo_model.specs.Machine.FieldMemories.{cell_at}
 use Rattle.cairo_model.specs.Pie.Acceptance.{CheckedRecord}
 use Rattle.cairo_model.proofs.Firsts.{none_below_next}
-use Rattle.boot_program.specs.Faults.Causes.{IsBatchCause, IsFirstBatchFault, IsFirstRunFault, IsOutputIndex, IsRunCause, PrintsAt, wanted_of}
+use Rattle.boot_program.specs.Faults.Causes.{IsBatchCause, IsFirstRunFault, IsOutputIndex, IsRunCause, PrintsAt, wanted_of}
 use Rattle.boot_program.specs.Faults.Records.{FaultCause, at_boot, at_start, at_end, at_range, at_hash, at_row, at_output, at_task, fault_number}
 use Rattle.boot_program.specs.Faults.Rules.{IsEndRule, IsInSpan, IsStartRule, IsThere, KeepsEndRule, KeepsStartRule, OfBatch, RangeCellAt, WholeInstanceAt}
 use Rattle.boot_program.specs.Faults.Tasks.{IsNumbered, TaskStands}
@@ -105,16 +105,10 @@ module _ (cert : CertRecord) (list : List CheckedRecord) where
   batch_excludes (at_output i stands wanted) rule cause = cause.0.fails (rule i cause.0.inside)
   batch_excludes (at_task i segment offset) rule cause = cause.0.fails (rule i cause.0.inside)
 
-  pub batch_passes_none : BatchPasses cert list 1
-  batch_passes_none c lt = absurd (omega (arith, from_1 c, lt))
-
   pub batch_passes_on : (n : ℕ) → BatchPasses cert list n → BatchRuleAt (stage_at n) → BatchPasses cert list (n + 1)
   batch_passes_on n passes rule = none_below_next fault_number (IsBatchCause cert list) n passes (λ c here.
       let P : ℕ → Type 0 = λ k. BatchRuleAt (stage_at k) in
       batch_excludes c (subst P (sym here) rule))
-
-  pub batch_first : (c : FaultCause) → IsBatchCause cert list c → BatchPasses cert list (fault_number c) → IsFirstBatchFault cert list c
-  batch_first c applies passes = record { applies = applies; none_before = passes }
 
   -- up to the rows a batch's causes are those of its run
   run_cause : cert.kind ≡ batch → (c : FaultCause) → fault_number c < 7 → IsBatchCause cert list c → IsRunCause cert c
@@ -127,19 +121,3 @@ module _ (cert : CertRecord) (list : List CheckedRecord) where
   run_cause is (at_row n why) lt cause = cause
   run_cause is (at_output i stands wanted) lt cause = absurd (omega (arith, lt))
   run_cause is (at_task i segment offset) lt cause = absurd (omega (arith, lt))
-
-  batch_cause : (c : FaultCause) → fault_number c < 7 → IsRunCause cert c → IsBatchCause cert list c
-  batch_cause (at_boot a) lt cause = inr cause
-  batch_cause (at_start k) lt cause = cause
-  batch_cause (at_end k) lt cause = cause
-  batch_cause (at_range i) lt cause = cause
-  batch_cause (at_hash i) lt cause = cause
-  batch_cause (at_row n why) lt cause = cause
-  batch_cause (at_output i stands wanted) lt cause = absurd (omega (arith, lt))
-  batch_cause (at_task i segment offset) lt cause = absurd (omega (arith, lt))
-
-  pub run_passes : cert.kind ≡ batch → (n : ℕ) → n ≤ 7 → Passes cert n → BatchPasses cert list n
-  run_passes is n few passes c lt cause = passes c lt (run_cause is c (omega (arith, lt, few)) cause)
-
-  pub run_first : cert.kind ≡ batch → (c : FaultCause) → fault_number c < 7 → IsFirstRunFault cert c → IsFirstBatchFault cert list c
-  run_first is c lt first = record { applies = batch_cause c lt first.applies; none_before = run_passes is (fault_number c) (omega (arith, lt)) first.none_before }

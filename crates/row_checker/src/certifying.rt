@@ -10,13 +10,10 @@ ghost use Rattle.row_checker.specs.Working.Stages.{BatchPasses, KeepsBatchRun};
 use crate::checking::walked;
 use crate::outputs::{batch_numbers, other_output, printed_at, wanted_at};
 use crate::tasks::missing_task;
-use boot_program::{Certified, Parcel, RunFault};
+use boot_program::{BOOT_ENTRY, Certified, Parcel, RunFault};
 use cairo_model::{Cert, Checked, End, Kind, is_certificate};
 use std::alloc::Global;
 use std::thread::Threads;
-
-/// The address of the bootloader's first word.
-const FIRST_WORD: u64 = 1;
 
 /// The certificate with the parcel, where it is accepted as a batch of these tasks and each of them stands in it, or else
 /// the first fault (docs/CERTIFICATE.md), whatever the number of chunks. On a fault both are dropped.
@@ -69,7 +66,7 @@ fn run_of_batch(
     ensures refused { (e : RunFault) → result ≡ Err (End.Refused e) → IsFirstBatchFault cert.now tasks.now (fault_cause e) }
 {
     match cert.kind {
-        Kind::Alone => Err(End::Refused(RunFault::Boot(FIRST_WORD))),
+        Kind::Alone => Err(End::Refused(RunFault::Boot(BOOT_ENTRY))),
         Kind::Batch => walked(rt, alloc, cert, chunks),
     }
 }

@@ -11,8 +11,11 @@ use rayon::prelude::*;
 use std::alloc::{AllocError, Global};
 use std::thread::Threads;
 
-/// How many rows less than which are not worth a thread of their own.
-const LEAST_ROWS: usize = 1024;
+/// In how many chunks the rows of a certificate are checked, each in a thread of its own where there are processors.
+pub const CHUNKS: usize = 8;
+
+/// Fewer rows than these are not worth a thread of their own (docs/BENCHMARK.md, 'Chunks').
+const LEAST_ROWS: usize = 8192;
 
 /// The first row that doesn't lead to the next state, found in so many chunks at most. With one chunk it takes no memory.
 pub(crate) fn first_bad(

@@ -8,12 +8,9 @@ ghost use Rattle.cairo_model.specs.Refusals.FirstFailing.{IsFirstFailing};
 ghost use Rattle.cairo_model.specs.Views.Machine.{field_registers};
 
 use crate::boot::holds;
-use boot_program::BOOT_END;
+use boot_program::{BOOT_END, BOOT_ENTRY};
 use cairo_model::{Cells, Cert, FieldState, Kind, felt_of};
 use goldi_field::Felt;
-
-/// The address at which a batch's run begins.
-const ENTRY: u64 = 1;
 
 /// The least rule of the start that isn't kept.
 pub(crate) fn broken_start(cert: &Cert) -> Option<u32>
@@ -52,7 +49,7 @@ fn keeps_start_rule(cert: &Cert, first: &FieldState, k: u32) -> bool
         4 => has_below(cells, first.fp, 3, cert.hash.start.value()),
         5 => is_below(cells, first.fp, 2),
         6 => is_below(cells, first.fp, 1),
-        7 => !is_batch(cert) || first.pc.value() == ENTRY,
+        7 => !is_batch(cert) || first.pc.value() == BOOT_ENTRY,
         8 => !is_batch(cert) || has_below(cells, first.fp, 1, BOOT_END),
         _ => true,
     }

@@ -14,6 +14,7 @@ mod tasks;
 
 pub use certifying::certify;
 pub use checking::check_run;
+pub use chunks::CHUNKS;
 pub use laws::{
     accepted_has_no_fault, certified_has_no_fault, one_first_batch_fault, one_first_run_fault,
 };

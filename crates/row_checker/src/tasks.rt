@@ -13,13 +13,11 @@ ghost use Rattle.cairo_model.specs.Views.Machine.{datum, field_registers, regist
 ghost use Rattle.cairo_model.specs.Views.Pie.{memory_cell};
 ghost use Rattle.row_checker.specs.Working.Tasks.{HasCell, HasCellAt, IsStretch, ShowsPlaced, StandsAt};
 
+use cairo_model::segments::RETURN_PC;
 use cairo_model::{
     Cells, Cert, Checked, FieldState, Pie, PieCell, Place, State, TaskMark, Value, felt_of,
 };
 use goldi_field::Felt;
-
-/// The segment whose start is the return address of a task.
-const RETURN: u16 = 6;
 
 /// The first task or mark that lacks the other or doesn't stand, and the place that shows it.
 pub(crate) fn missing_task(cert: &Cert, tasks: &[Checked]) -> Option<(usize, Place)>
@@ -67,7 +65,7 @@ fn whole_task() -> Place
     ensures offset { result.offset ≡ 0 }
 {
     Place {
-        segment: RETURN,
+        segment: RETURN_PC,
         offset: 0,
     }
 }

@@ -60,9 +60,6 @@ part_if h false e es = refl
 abbrev handed_notes : List FullEntry → List OfferNote
 handed_notes es = filter_map (λ e. handed_note e.entry.event) es
 
-abbrev AreOwn : ℕ → List FullEntry → Type 0
-AreOwn c es = All (λ (e : FullEntry). IsOwnEvent c (e.entry.pass == c) e.entry.event) es
-
 module _ (c : ℕ) (k : FullEntry) (end : List FullEntry) (closes : is_close k.entry.event ≡ true) where
   abbrev Own : FullEntry → Type 0
   Own e = IsOwnEvent c (e.entry.pass == c) e.entry.event

@@ -77,6 +77,3 @@ seen_at view xs ys k x same there is =
 at_address : (m : MemoryRecord) (cells : List MemoryCell) → HoldsCells m cells → (address : Datum) → memory_in m address ≡ memory_of cells address
 at_address m cells holds (number n) = refl
 at_address m cells holds (place s o) = holds s o
-
-pub same_memory : (m : MemoryRecord) (cells : List MemoryCell) → HoldsCells m cells → memory_in m ≡ memory_of cells
-same_memory m cells holds = λ i address. at_address m cells holds address i

@@ -2,7 +2,7 @@
 use Rattle.std.proofs.Common.{inl, inr, ◌≡◌, ℕ, ◌-◌, ◌<◌, ◌≤◌, List, [], ◌∷◌, ◌++◌, length, set, sum, get_or, replicate, Some, None, Result, Ok, Err, refl, sym, ap, ap₂, subst, ◌∙◌, arith}
 use Rattle.std.specs.Prelude.{OnOk, OnErr}
 use Rattle.std.proofs.lemmas.Bool.{cases_eq, cases_lt}
-use Rattle.std.proofs.lemmas.List.{length-set, length-map, length-append, length-replicate, map-append, map-set, set-get_or, get_or_default, get_or_past, get_or_push, get_or-set_same, get_or-set_other, get_or_append_left, get_or-append_right, length_push}
+use Rattle.std.proofs.lemmas.List.{length-set, length-map, length-append, length-replicate, map-append, map-set, set-get_or, get_or_default, get_or_past, get_or-set_same, get_or-set_other, get_or_append_left, get_or-append_right}
 use Rattle.std.proofs.lemmas.List.Sums.{get_or-le-sum_by}
 use Rattle.cairo_model.specs.Machine.Values.{Datum}
 use Rattle.cairo_model.specs.Limits.{most_cells}
@@ -128,16 +128,6 @@ ok_then (Err e) ok go = ok
 pub one_more : (segments new : Segments) (cells : List Cell) (sizes : List ℕ) (size : ℕ) → new ≡ segments ++ cells ∷ [] → cells ≡ replicate size None → sizes_of segments ≡ sizes → sizes_of new ≡ sizes ++ size ∷ []
 one_more segments new cells sizes size is empty so_far =
     ap sizes_of is ∙ (map-append (λ cells. length cells) segments (cells ∷ []) ∙ ap₂ (λ (ns : List ℕ) (n : ℕ). ns ++ n ∷ []) so_far (ap length empty ∙ length-replicate {A = Cell} size None))
-
-pub still_empty : (segments new : Segments) (cells : List Cell) (size : ℕ) → new ≡ segments ++ cells ∷ [] → cells ≡ replicate size None → ((s o : ℕ) → segment_cell segments s o ≡ None) → (s o : ℕ) → segment_cell new s o ≡ None
-still_empty segments new cells size is empty so_far s o =
-    ap (λ (ss : Segments). segment_cell ss s o) is ∙ elim (cases_lt s (length segments)) [
-      | inl lt ↦ ap (λ (cs : List Cell). get_or cs o None) (get_or_append_left segments (cells ∷ []) [] s lt) ∙ so_far s o
-      | inr past ↦ elim (cases_eq s (length segments)) [
-        | inl last ↦ ap (λ (cs : List Cell). get_or cs o None) (get_or_push segments cells [] s (sym last) ∙ empty) ∙ none_at size o
-        | inr beyond ↦ ap (λ (cs : List Cell). get_or cs o None) (get_or_past (segments ++ cells ∷ []) s [] (omega (arith, past, beyond, length_push segments cells)))
-      ]
-    ]
 
 pub is_empty : (segments : Segments) → ((s o : ℕ) → segment_cell segments s o ≡ None) → IsEmpty (seen segments)
 is_empty segments none s o = seen_cell segments s o ∙ none s o

@@ -88,10 +88,6 @@ module _ (cells : Datum → Option Datum) where
         states_run (n + 1) after rest goes.1.1 more,
       )
 
-last_state : (now : Configuration) (rest : List Configuration) → last_of now.registers (map (λ (c : Configuration). c.registers) rest) ≡ (last_configuration now rest).registers
-last_state now [] = refl
-last_state now (after ∷ rest) = last_state after rest
-
 start_is : (words : List ℕ) (main : ℕ) (start : Configuration) → started words main ≡ Ok start → start.registers ≡ start_registers main
 start_is words main start e =
     then_ok _ (over_size 0) (Ok (record { memory = start_memory words; registers = start_registers main })) start e (λ fits is.

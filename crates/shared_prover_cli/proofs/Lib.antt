@@ -1,6 +1,5 @@
 mod CodeCells
 mod Endings
-mod KeptBytes
 mod OneAnswer
 mod OneOutcome
 mod RunLemmas

@@ -1,8 +1,8 @@
 -- What a reading has taken so far, and what one more piece adds to it.
-use Rattle.std.proofs.Common.{◌≡◌, ◌++◌, ◌+◌, ℕ, List, [], Option, length, length-append, take, subst, arith, refl}
+use Rattle.std.proofs.Common.{◌≡◌, ◌++◌, ◌+◌, ℕ, List, Option, length, length-append, take, subst, arith}
 use Rattle.std.proofs.Math.Seq.{take-append_seam}
 use Rattle.std.specs.Io.KnownBytes.{Consumes}
-use Rattle.std.proofs.KnownBytes.{Consumes-nil, Consumes-trans}
+use Rattle.std.proofs.KnownBytes.{Consumes-trans}
 
 -- so many bytes, which were read and taken
 pub record TakenSoFar (count : ℕ) (before after : Option (List ℕ)) (HasTaken : List ℕ → Type 0) : Type 0 where
@@ -10,14 +10,6 @@ pub record TakenSoFar (count : ℕ) (before after : Option (List ℕ)) (HasTaken
   pub are_read : Consumes before after bytes
   pub many : length bytes ≡ count
   pub taken : HasTaken bytes
-
-pub nothing_taken : (source : Option (List ℕ)) (HasTaken : List ℕ → Type 0) → HasTaken [] → TakenSoFar 0 source source HasTaken
-nothing_taken source HasTaken taken = record {
-  bytes = [];
-  are_read = Consumes-nil source;
-  many = refl;
-  taken = taken;
-}
 
 module _ {count : ℕ} {before after : Option (List ℕ)} {HasTaken : List ℕ → Type 0} (so_far : TakenSoFar count before after HasTaken) (later : Option (List ℕ)) (piece : List ℕ) (size : ℕ) where
   -- what was read with the piece, which is taken or not

@@ -24,6 +24,7 @@ impl Model for SureSource {
 }
 
 impl SureSource {
+    /// The source of these bytes.
     pub fn new(bytes: Vec<u8>) -> SureSource
         ensures { result ≡ bytes.items }
     {
@@ -57,6 +58,7 @@ impl Source for SureSource {
 pub struct SureSink;
 
 impl SureSink {
+    /// The one value of this type.
     pub fn new() -> SureSink {
         SureSink
     }

@@ -3,12 +3,9 @@ ghost use Rattle.shared_prover_cli.specs.Answers.Boot.{BootAnswer, word_digits a
 ghost use Rattle.shared_prover_cli.specs.Working.Replies.{reply_view};
 
 use crate::reply::{Outcome, Reply};
-use boot_program::boot_words;
+use boot_program::{BOOT_ENTRY, boot_words};
 use cairo_model::put_decimal;
 use std::alloc::{AllocError, Global};
-
-/// The address of the bootloader's first word.
-const FIRST_ADDRESS: u64 = 1;
 
 /// The hexadecimal digits of a word: two for each of its eight bytes.
 const WORD_DIGITS: usize = 16;
@@ -29,7 +26,7 @@ fn word_lines(alloc: Global, words: &[u64]) -> Result<Vec<u8>, AllocError>
 {
     let mut text = Vec::new(alloc);
     for index in 0..words.len() {
-        put_word(alloc, &mut text, FIRST_ADDRESS + index as u64, words[index])?;
+        put_word(alloc, &mut text, BOOT_ENTRY + index as u64, words[index])?;
     }
     Ok(text)
 }

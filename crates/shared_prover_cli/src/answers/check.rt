@@ -10,12 +10,9 @@ use crate::outputs::outputs_of;
 use crate::reply::{Outcome, Reply};
 use cairo_model::{Cert, End};
 use cert_format::CertReader;
-use row_checker::{accepted_has_no_fault, check_run};
+use row_checker::{CHUNKS, accepted_has_no_fault, check_run};
 use std::alloc::{AllocError, Global};
 use std::thread::Threads;
-
-/// In how many chunks the rows of a certificate are checked, each in a thread of its own where there are processors.
-const CHUNKS: usize = 8;
 
 /// Whether the certificate that the reader was fed is accepted, or else its first fault.
 pub fn check_answer<R: Threads + Sync>(
