@@ -51,7 +51,7 @@ abbrev pub ReturnTells : Type 0
 ReturnTells = (m : ℕ → Option ℕ) → HasBoot m → (ap f caller : ℕ) → m (down f 1) ≡ Some branch_pc → m (down f 2) ≡ Some caller
     → (ts : List (Registers ℕ)) → RunFrom field_arithmetic m (state return_pc ap f) ts → (last_of (state return_pc ap f) ts).pc ≡ boot_end → ReachesNextTurn m ap f caller ts
 
--- a task's own cells in order hold what its stretches ask up to the call, and at its return
+-- a task's own cells in order hold what its stretches ask up to the call
 abbrev pub FrameHolds : Type 0
 FrameHolds = (m : ℕ → Option ℕ) (a caller left : ℕ) (n : TurnValues) (gap distance : ℕ) (stops : Stops)
     → HoldsTurn m a caller left n gap distance stops → TurnCells m a caller n

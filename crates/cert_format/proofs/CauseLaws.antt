@@ -31,7 +31,7 @@ order_refused (Some place) x e h go = go place refl (err_is (Order place) e h)
 short_of : (n : ℕ) (bytes : List ℕ) → bytes_after n bytes ≡ None → length bytes < n
 short_of n bytes e = tested (ltb (length bytes) n) None (Some (drop n bytes)) None e (λ short _. ltb-true (length bytes) n short) (λ _ some. absurd (cc))
 
--- behind the certificate_magic
+-- behind the magic
 refused_behind : (bytes body : List ℕ) (r : CertRefusal) → IsBytes bytes → has_magic bytes ≡ true → 8 ≤ length bytes → drop 8 bytes ≡ body → with_body (length bytes) body ≡ Err r → IsFirstCertCause bytes r
 refused_behind bytes body r fits begins room is_body e =
     let whole = length bytes in

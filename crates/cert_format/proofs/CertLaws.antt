@@ -51,7 +51,7 @@ pub order_kept : {A R : Type 0} (o : Option ℕ) (x y : A) → ordered o x ≡ O
 order_kept None x y h go = go refl (ok_is x y h)
 order_kept (Some p) x y h go = absurd (cc)
 
--- eight bytes that begin the certificate_magic are the certificate_magic
+-- eight bytes that begin the magic are the magic
 magic_stands : (bytes : List ℕ) → 8 ≤ length bytes → has_magic bytes ≡ true → bytes ≡ certificate_magic ++ drop 8 bytes
 magic_stands bytes long begins =
     let len : length (take 8 bytes) ≡ 8 = omega (arith, length-take 8 bytes) in
@@ -65,7 +65,7 @@ room_for n bytes body e go = else_gives (ltb (length bytes) n) (Some (drop n byt
 
 -- ---- what is read
 
--- behind the certificate_magic, where nothing follows
+-- behind the magic, where nothing follows
 cert_behind : (whole : ℕ) (body rest : List ℕ) (x : Draft × List ℕ) → IsBytes body → after_all body ≡ Some rest → draft_at whole body ≡ Ok x → order_fault whole x.0 ≡ None → length x.1 ≡ 0 → CertBytes (certificate_magic ++ body) x.0.cert
 cert_behind whole body rest x fits all read no_fault none =
     let found : Skipped entries_of body rest = parts_skip.there body rest fits all in

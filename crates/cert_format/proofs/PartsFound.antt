@@ -156,7 +156,7 @@ parts_of x = record { kind_number = x.0.0; output = x.0.1.0; range = x.0.1.1.0; 
 abbrev pieces : Parts → Heads × Bodies
 pieces p = ((p.kind_number, (p.output, (p.range, p.hash))), (p.tasks, (p.cells, p.states)))
 
--- the parts of a file, behind the certificate_magic
+-- the parts of a file, behind the magic
 pub parts_skip : IsSkip after_all entries_of
 parts_skip = record {
   there = λ bytes rest fits e. let x = all_skip.there bytes rest fits e in record { value = parts_of x.value; parts = x.parts; fit = x.fit };

@@ -21,7 +21,7 @@ long_number_at bytes = if nat_lt (length bytes) 8 then None else Some (from_be_b
 
 -- ---- all that is announced is there
 
--- the first eight bytes, of those that are there, begin the certificate_magic
+-- the first eight bytes, of those that are there, begin the magic
 abbrev pub has_magic : List ℕ → Bool
 has_magic bytes = starts_with ◌==◌ certificate_magic (take 8 bytes)
 
@@ -179,7 +179,7 @@ with_draft whole draft = ordered (order_fault whole draft.0) draft.0.cert >>= en
 
 unfoldable pub reading : List ℕ → Result CertRecord CertRefusal
 reading bytes = do
-  certificate_magic ← demanded BadMagic (has_magic bytes)
+  begins ← demanded BadMagic (has_magic bytes)
   body ← required (Truncated (length bytes)) (bytes_after 8 bytes)
   rest ← required (Truncated (length bytes)) (after_all body)
   draft ← draft_at (length bytes) body

@@ -18,7 +18,7 @@ refusal_number (BadNumber place) = 3
 refusal_number (Order place) = 4
 refusal_number (Trailing k) = 5
 
--- ---- a file, behind its certificate_magic, as a row of entries
+-- ---- a file, behind its magic, as a row of entries
 
 pub data Entry : Type 0 where
   kind : ℕ → Entry

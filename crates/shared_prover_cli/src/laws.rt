@@ -47,7 +47,7 @@ pub fn no_script_refused()
         → AnswerOf command input reply desk → reply.status ≢ 3 }
 {}
 
-/// A script is run or served: neither `batch` nor `export` nor `serve` refuses it as a script, and `batch` and `serve` end with 0.
+/// A script is run or served: neither `batch` nor `export` nor `serve` refuses it as a script, and the replies of `batch` and `serve` have status 0.
 pub fn script_is_run()
     ensures batch { (clients : ℕ) (input : List ℕ) (lines : List ScriptLine) (reply : ReplyRecord) (desk : Option DeskRecord) → clients ≤ 2 ^ 32 → IsScript clients input lines
         → AnswerOf (Command.Batch clients) input reply desk → reply.status ≡ 0 }

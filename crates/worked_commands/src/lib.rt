@@ -19,6 +19,8 @@ mod replay;
 #[cfg(test)]
 mod roomy;
 #[cfg(test)]
+mod run;
+#[cfg(test)]
 mod scripts;
 #[cfg(test)]
 mod streams;

@@ -2,7 +2,7 @@
 
 use batch_runner::{BootMaker, Maker};
 use boot_program::{Certified, Parcel};
-use cairo_model::{Checked, ReadRefusal, Refusal};
+use cairo_model::{Checked, Outputs, ReadRefusal, Refusal, felt_of};
 use desk_core::{Desk, Event, JobPhase, Offer, OfferNote, Phase, RegisterEnd, Reply};
 use hex::decode;
 use pie_replay::admit;
@@ -274,5 +274,32 @@ fn a_parcel_of_other_tasks_comes_back(rt: HostRuntime) -> Result<(), Fail> {
         stranger_registered(&rt, rt.alloc(), &mut desk)
     };
     assert_eq!(rt; found?, (false, Some(1), false));
+    Ok(())
+}
+
+// The outputs that stand for the program that writes 5, after a batch of two of its runs.
+fn outputs_told(
+    rt: &(impl Threads + Sync),
+    alloc: Global,
+    desk: &mut Desk,
+) -> Result<Vec<Outputs>, Fail> {
+    let _ = five_offered(alloc, desk)?;
+    let parcel = five_taken(alloc, desk)?;
+    let _ = registered(rt, alloc, desk, parcel)?;
+    let five = task(alloc, FIVE)?;
+    Ok(desk.registry().outputs_of(alloc, &five.fact().program)?)
+}
+
+#[test]
+fn a_fact_of_two_jobs_is_told_once(rt: HostRuntime) -> Result<(), Fail> {
+    let found = {
+        let mut desk = Desk::new(rt.alloc(), 1)?;
+        outputs_told(&rt, rt.alloc(), &mut desk)
+    };
+    let outputs = found?;
+    assert_eq!(rt; outputs.len(), 1);
+    for numbers in outputs.as_slice() {
+        assert_eq!(rt; numbers.as_slice(), &[felt_of(5)]);
+    }
     Ok(())
 }

@@ -45,7 +45,7 @@ impl Maker for WantfulMaker {
     }
 }
 
-// How a worker ends where the program that writes 5 waits at a closed desk, and where its job stands then.
+// How a worker ends where the program that writes 5 waits at a closed desk, where its job stands then, and whether its fact does.
 fn worked<R: Threads + Wait + Sync, M: Maker>(
     rt: &R,
     alloc: Global,
@@ -53,7 +53,7 @@ fn worked<R: Threads + Wait + Sync, M: Maker>(
     client: &mut Pass<Held>,
     worker: &mut Pass<Held>,
     maker: &M,
-) -> Result<(WorkEnd, Reply), Fail>
+) -> Result<(WorkEnd, Reply, Reply), Fail>
     requires own { (client.old.lock ≡ desk.now.lock) × (client.old.width ≡ 1) }
     requires worker { worker.old.lock ≡ desk.now.lock }
     requires idle { IsIdlePass worker.old }
@@ -62,15 +62,20 @@ fn worked<R: Threads + Wait + Sync, M: Maker>(
     let _ = desk.close(rt, client)?;
     let end = work(rt, alloc, desk, worker, maker, &OpenGate, &Bell::new());
     let told = desk.status(rt, client, 0, 0)?;
-    Ok((end, told))
+    let five = task(alloc, FIVE)?;
+    let known = desk.ask(rt, alloc, client, 0, five.fact())?;
+    Ok((end, told, known))
 }
 
 #[test]
 fn an_honest_makers_batch_is_registered(rt: HostRuntime) -> Result<(), Fail> {
     let (desk, mut client, mut worker, _) = desk_for_three(&rt, rt.alloc())?;
-    let (end, told) = worked(&rt, rt.alloc(), &desk, &mut client, &mut worker, &BootMaker)?;
+    let (end, told, known) = worked(&rt, rt.alloc(), &desk, &mut client, &mut worker, &BootMaker)?;
     assert!(rt; matches!(end, WorkEnd::Drained));
-    assert_eq!(rt; told, Reply::IsAt(JobPhase::Registered));
+    assert_eq!(rt;
+        (told, known),
+        (Reply::IsAt(JobPhase::Registered), Reply::Yes)
+    );
     Ok(())
 }
 
@@ -89,17 +94,17 @@ fn a_dishonest_makers_batch_is_sealed_again(rt: HostRuntime) -> Result<(), Fail>
         parcel: empty_parcel(rt.alloc())?,
     };
     let (desk, mut client, mut worker, _) = desk_for_three(&rt, rt.alloc())?;
-    let (end, told) = worked(&rt, rt.alloc(), &desk, &mut client, &mut worker, &maker)?;
+    let (end, told, known) = worked(&rt, rt.alloc(), &desk, &mut client, &mut worker, &maker)?;
     let wanted = RunFault::Output(1, Some(felt_of(9)), Some(felt_of(10)));
     assert!(rt; matches!(end, WorkEnd::Rejected(0, fault) if fault == wanted));
-    assert_eq!(rt; told, Reply::IsAt(JobPhase::Sealed));
+    assert_eq!(rt; (told, known), (Reply::IsAt(JobPhase::Sealed), Reply::No));
     Ok(())
 }
 
 #[test]
 fn a_batch_whose_maker_wants_memory_is_sealed_again(rt: HostRuntime) -> Result<(), Fail> {
     let (desk, mut client, mut worker, _) = desk_for_three(&rt, rt.alloc())?;
-    let (end, told) = worked(
+    let (end, told, known) = worked(
         &rt,
         rt.alloc(),
         &desk,
@@ -108,7 +113,7 @@ fn a_batch_whose_maker_wants_memory_is_sealed_again(rt: HostRuntime) -> Result<(
         &WantfulMaker,
     )?;
     assert!(rt; matches!(end, WorkEnd::OutOfMemory));
-    assert_eq!(rt; told, Reply::IsAt(JobPhase::Sealed));
+    assert_eq!(rt; (told, known), (Reply::IsAt(JobPhase::Sealed), Reply::No));
     Ok(())
 }
 

@@ -1,4 +1,4 @@
--- Certificates as plain data, and when the machine accepts one (docs/CERTIFICATE.md).
+-- Certificates as plain data, and what each one keeps (docs/CERTIFICATE.md).
 use Rattle.std.specs.Prelude.{ℕ, ◌≡◌, ◌^◌, ◌<◌, ◌≤◌, List, length, All, []}
 use Rattle.goldi_field.specs.Numbers.{IsFelt}
 use Rattle.cairo_model.specs.Machine.Steps.{Registers}
