@@ -78,9 +78,6 @@ module _ (old new : Token FullEntry) (e : Event) (pie : PieRecord) (r : Reply) (
       ap (λ (m : List (ℕ × FullEntry)). in_hand k false (notes_in m)) one
       ∙ (ap (in_hand k false) (map-append (λ (x : ℕ × FullEntry). x.1) old.mine (own_entry old.number e pie r ∷ [])) ∙ in_hand_on k false (notes_in old.mine) (entry_of old.number e pie r ∷ []))
 
-pub idle_same : (old new : Token FullEntry) → new.mine ≡ old.mine → IsIdlePass old → IsIdlePass new
-idle_same old new is idle k = ap (λ (m : List (ℕ × FullEntry)). in_hand k false (notes_in m)) is ∙ idle k
-
 pub idle_none : (old new : Token FullEntry) → HasOneMore event.Take no_pie old new reply.NothingSealed → IsIdlePass old → IsIdlePass new
 idle_none old new one idle k = hand_step old new event.Take no_pie reply.NothingSealed one k ∙ idle k
 
