@@ -13,7 +13,7 @@ use Rattle.desk_core.specs.declared.phase.Phase.{Phase}
 use Rattle.desk_core.specs.declared.phase.Phase.TheVariants as phase
 use Rattle.desk_core.specs.declared.reply.Reply.{Reply}
 use Rattle.batch_workers.proofs.Phases.{alone_by, phase_more, phase_set}
-use Rattle.batch_workers.specs.Works.{IsWorkOf, Works, WorksAlone, is_work}
+use Rattle.batch_workers.specs.Works.{IsWorkOf, Works, WorksAlone, is_of_holder, is_work}
 use Rattle.batch_workers.specs.Working.Rounds.{Are}
 
 -- ---- what stays
@@ -82,11 +82,11 @@ stays_alone d pass event.Close is alone = absurd (cc)
 
 -- ---- one event
 
-pub one_event : (old new : DeskRecord) (pass : ℕ) (e : Event) (r : Reply) → is_work e ≡ true → IsTurn old new pass e no_pie r → Works pass (Are (entry_of pass e no_pie r ∷ [])) old new
-one_event old new pass e r is turn = record {
+pub one_event : (old new : DeskRecord) (pass : ℕ) (e : Event) (r : Reply) → is_work e ≡ true → is_of_holder r ≡ true → IsTurn old new pass e no_pie r → Works pass (Are (entry_of pass e no_pie r ∷ [])) old new
+one_event old new pass e r is held turn = record {
   more = entry_of pass e no_pie r ∷ [];
   journal = turn.journal;
-  works = All-cons (IsWorkOf pass) (entry_of pass e no_pie r) [] (record { own = refl; kind = is }) (All-nil (IsWorkOf pass));
+  works = All-cons (IsWorkOf pass) (entry_of pass e no_pie r) [] (record { own = refl; kind = is; held = held }) (All-nil (IsWorkOf pass));
   ends = refl;
   jobs = ap (λ (d : PlainDesk). d.jobs) turn.becomes ∙ jobs_stay (plain_of old) pass e is;
   clients = turn.clients;

@@ -50,7 +50,7 @@ module _ (pass : ℕ) (old new : DeskRecord) (b : ℕ) (certified : CertifiedRec
 
   pub went : IsRegistering old new pass b certified reply.Registered → RegisterDone pass old new round.Went
   went x = (
-    busy_from pass old new (entry_of pass (event.Register b x.differs) no_pie reply.Registered) refl (one_event old new pass (event.Register b x.differs) reply.Registered refl x.turn),
+    busy_from pass old new (entry_of pass (event.Register b x.differs) no_pie reply.Registered) refl (one_event old new pass (event.Register b x.differs) reply.Registered refl refl x.turn),
     (
       subst (IsIdle pass) (sym (becomes x)) (idle_again pass (plain_of old) b phase.Registered ((plain_of old).registered ++ b ∷ []) (pies_in certified.parcel.tasks) (λ q. cc) h),
       ap remaining (becomes x) ∙ same_left (plain_of old) b phase.Registered ((plain_of old).registered ++ b ∷ []) refl (ap is_sealed h.taken),

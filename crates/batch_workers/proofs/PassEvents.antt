@@ -24,7 +24,7 @@ use Rattle.turn_lock.specs.Passes.{Token}
 use Rattle.batch_workers.specs.SharedWorks.{PassWorks}
 use Rattle.batch_workers.specs.Working.Rounds.{Are}
 use Rattle.batch_workers.specs.Working.SharedRounds.{HasBatch, SamePies}
-use Rattle.batch_workers.specs.Works.{EndBusy, IsWorkOf, ends_idle, is_work}
+use Rattle.batch_workers.specs.Works.{EndBusy, IsWorkOf, ends_idle, is_of_holder, is_work}
 
 -- ---- entries, one turn after another
 
@@ -78,9 +78,6 @@ module _ (old new : Token FullEntry) (e : Event) (pie : PieRecord) (r : Reply) (
       ap (λ (m : List (ℕ × FullEntry)). in_hand k false (notes_in m)) one
       ∙ (ap (in_hand k false) (map-append (λ (x : ℕ × FullEntry). x.1) old.mine (own_entry old.number e pie r ∷ [])) ∙ in_hand_on k false (notes_in old.mine) (entry_of old.number e pie r ∷ []))
 
-pub idle_same : (old new : Token FullEntry) → new.mine ≡ old.mine → IsIdlePass old → IsIdlePass new
-idle_same old new is idle k = ap (λ (m : List (ℕ × FullEntry)). in_hand k false (notes_in m)) is ∙ idle k
-
 pub idle_none : (old new : Token FullEntry) → HasOneMore event.Take no_pie old new reply.NothingSealed → IsIdlePass old → IsIdlePass new
 idle_none old new one idle k = hand_step old new event.Take no_pie reply.NothingSealed one k ∙ idle k
 
@@ -109,20 +106,20 @@ idle_returned old new b one h k = hand_step old new (event.GiveBack b) no_pie re
 
 module _ (old new : Token FullEntry) (before after : DeskRecord) (t : PassTurn old new before after) where
   -- one entry more, of a worker's kinds
-  pub one_done : (e : Event) (r : Reply) → is_work e ≡ true → HasOneMore e no_pie old new r → PassWorks (Are (entry_of old.number e no_pie r ∷ [])) old new
-  one_done e r is one = record {
+  pub one_done : (e : Event) (r : Reply) → is_work e ≡ true → is_of_holder r ≡ true → HasOneMore e no_pie old new r → PassWorks (Are (entry_of old.number e no_pie r ∷ [])) old new
+  one_done e r is holds one = record {
     lock = t.same.0;
     number = t.same.1;
     width = t.same.2;
     more = entry_of old.number e no_pie r ∷ [];
     mine = one;
-    works = All-cons (IsWorkOf old.number) (entry_of old.number e no_pie r) [] (record { own = refl; kind = is }) (All-nil (IsWorkOf old.number));
+    works = All-cons (IsWorkOf old.number) (entry_of old.number e no_pie r) [] (record { own = refl; kind = is; held = holds }) (All-nil (IsWorkOf old.number));
     ends = refl;
   }
 
   -- one that isn't that no job waits
-  pub one_busy : (e : Event) (r : Reply) → is_work e ≡ true → ends_idle (entry_of old.number e no_pie r ∷ []) ≡ false → HasOneMore e no_pie old new r → PassWorks EndBusy old new
-  one_busy e r is busy one = works_by old new (Are (entry_of old.number e no_pie r ∷ [])) EndBusy (λ es p. subst EndBusy (sym p) busy) (one_done e r is one)
+  pub one_busy : (e : Event) (r : Reply) → is_work e ≡ true → is_of_holder r ≡ true → ends_idle (entry_of old.number e no_pie r ∷ []) ≡ false → HasOneMore e no_pie old new r → PassWorks EndBusy old new
+  one_busy e r is holds busy one = works_by old new (Are (entry_of old.number e no_pie r ∷ [])) EndBusy (λ es p. subst EndBusy (sym p) busy) (one_done e r is holds one)
 
   -- memory was wanted
   pub none_done : new.mine ≡ old.mine → PassWorks EndBusy old new

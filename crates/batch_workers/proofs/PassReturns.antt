@@ -57,7 +57,7 @@ module _ (old new : Token FullEntry) (b : ℕ) (certified : CertifiedRecord) (h 
   pub was_registered : RegisterTurn b certified old new end.Done → PassKept b old new true
   was_registered x =
       let one = has_one_more old new x.before x.after x.turn (event.Register b x.done.0.differs) no_pie reply.Registered x.done.0.turn in
-      (one_busy old new x.before x.after x.turn (event.Register b x.done.0.differs) reply.Registered refl refl one, idle_registered old new b x.done.0.differs one h)
+      (one_busy old new x.before x.after x.turn (event.Register b x.done.0.differs) reply.Registered refl refl refl one, idle_registered old new b x.done.0.differs one h)
 
   pub was_not_registered : (back : CertifiedRecord) → RegisterTurn b certified old new (end.OutOfMemory back) → PassKept b old new false
   was_not_registered back x =
@@ -82,7 +82,7 @@ module _ (old new : Token FullEntry) (b : ℕ) (h : HasBatch old b) where
     gives_back r turn =
         let is : r ≡ reply.Returned = turn.replies ∙ returns_law (journal_of before) (plain_of before) t.good_before.legal old.number b (has_own old new before after t b h) in
         let one = subst (HasOneMore (event.GiveBack b) no_pie old new) is (has_one_more old new before after t (event.GiveBack b) no_pie r turn) in (
-          one_busy old new before after t (event.GiveBack b) reply.Returned refl refl one,
+          one_busy old new before after t (event.GiveBack b) reply.Returned refl refl refl one,
           (idle_returned old new b one h, ((stays old new before after t (entry_of old.number (event.GiveBack b) no_pie r ∷ []) turn.journal b h).are, is_sealed_again r turn)),
         )
 

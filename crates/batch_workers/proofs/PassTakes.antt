@@ -54,12 +54,12 @@ module _ (old new : Token FullEntry) (before after : DeskRecord) (t : PassTurn o
   took_this b turn =
       let one = has_one_more old new before after t event.Take no_pie (reply.TakenBatch b) turn in
       let h = took b turn one in
-      (one_busy old new before after t event.Take (reply.TakenBatch b) refl refl one, (h.0, pies_of_batch before.jobs before.batches b ∙ sym h.1))
+      (one_busy old new before after t event.Take (reply.TakenBatch b) refl refl refl one, (h.0, pies_of_batch before.jobs before.batches b ∙ sym h.1))
 
   took_none : IsTurn before after old.number event.Take no_pie reply.NothingSealed → PassTook old new None
   took_none turn =
       let one = has_one_more old new before after t event.Take no_pie reply.NothingSealed turn in
-      (one_done old new before after t event.Take reply.NothingSealed refl one, idle_none old new one idle)
+      (one_done old new before after t event.Take reply.NothingSealed refl refl one, idle_none old new one idle)
 
   by_found : (o : Option ℕ) (r : Reply) (parcel : Option ParcelRecord) → r ≡ take_reply o → IsTurn before after old.number event.Take no_pie r → parcel ≡ handed_out before r → PassTook old new parcel
   by_found None r parcel is turn out =
@@ -81,10 +81,10 @@ take_err old new e x = none_done old new x.before x.after x.turn (has_none_more 
 
 module _ (old new : Token FullEntry) (before after : DeskRecord) (t : PassTurn old new before after) (idle : IsIdlePass old) where
   none_waits : (closed : Bool) → HasOneMore event.Seal no_pie old new (reply.NothingWaiting closed) → PassSealing old new (shared_sealing (reply.NothingWaiting closed))
-  none_waits closed one = (one_done old new before after t event.Seal (reply.NothingWaiting closed) refl one, idle_sealed old new (reply.NothingWaiting closed) one idle)
+  none_waits closed one = (one_done old new before after t event.Seal (reply.NothingWaiting closed) refl refl one, idle_sealed old new (reply.NothingWaiting closed) one idle)
 
   some_wait : (b : ℕ) → HasOneMore event.Seal no_pie old new (reply.SealedBatch b) → PassSealing old new (shared_sealing (reply.SealedBatch b))
-  some_wait b one = (one_busy old new before after t event.Seal (reply.SealedBatch b) refl refl one, idle_sealed old new (reply.SealedBatch b) one idle)
+  some_wait b one = (one_busy old new before after t event.Seal (reply.SealedBatch b) refl refl refl one, idle_sealed old new (reply.SealedBatch b) one idle)
 
   by_waiting : (c closed : Bool) (b : ℕ) (r : Reply) → r ≡ cond c (reply.NothingWaiting closed) (reply.SealedBatch b) → HasOneMore event.Seal no_pie old new r → PassSealing old new (shared_sealing r)
   by_waiting true closed b r is one =

@@ -15,7 +15,7 @@ use Rattle.desk_core.specs.declared.reply.Reply.{Reply}
 use Rattle.desk_core.specs.declared.reply.Reply.TheVariants as reply
 use Rattle.desk_core.specs.Stays.{pies_at}
 use Rattle.desk_core.proofs.BatchLemmas.{phase_moved}
-use Rattle.batch_workers.specs.Works.{EndBusy, IsWorkOf, Works, is_nothing}
+use Rattle.batch_workers.specs.Works.{EndBusy, IsWorkOf, Works, is_nothing, is_of_holder}
 use Rattle.batch_workers.specs.Working.Rounds.{HandedBack, HoldsAlone}
 use Rattle.batch_workers.proofs.Endings.{busy_from, busy_then}
 use Rattle.batch_workers.proofs.Events.{one_event}
@@ -50,7 +50,7 @@ gave_back pass old new b pies r turn h =
     let own = own_batch pass (plain_of old) b pies h in
     let r_is : r ≡ reply.Returned = turn.replies ∙ ap (λ (t : Bool). cond t reply.Returned (reply.NotTaken (phase_at (plain_of old) b))) own in
     let moved : plain_of new ≡ after_give_back (plain_of old) b = turn.becomes ∙ ap (λ (t : Bool). cond t (after_give_back (plain_of old) b) (plain_of old)) own in (
-      busy_from pass old new (entry_of pass (event.GiveBack b) no_pie r) (ap is_nothing r_is) (one_event old new pass (event.GiveBack b) r refl turn),
+      busy_from pass old new (entry_of pass (event.GiveBack b) no_pie r) (ap is_nothing r_is) (one_event old new pass (event.GiveBack b) r refl (ap is_of_holder r_is) turn),
       subst (λ (x : PlainDesk). ((k : ℕ) → phase_at x k ≢ phase.Taken pass) × ((phase_at x b ≡ phase.Sealed) × (pies_at x b ≡ pies))) (sym moved) (
         idle_again pass (plain_of old) b phase.Sealed (plain_of old).registered pies (λ q. cc) h,
         (

@@ -21,7 +21,7 @@ use Rattle.batch_workers.specs.declared.round.Round.{Round}
 use Rattle.batch_workers.specs.declared.round.Round.TheVariants as round
 use Rattle.batch_workers.specs.declared.work_end.WorkEnd.{WorkEnd}
 use Rattle.batch_workers.specs.declared.work_end.WorkEnd.TheVariants as work
-use Rattle.batch_workers.specs.Works.{EndBusy, IsFaulty, IsNotRejected, IsRejected, WorkDone, Works, WorksAlone}
+use Rattle.batch_workers.specs.Works.{EndBusy, IsFaulty, IsRejected, WorkDone, Works, WorksAlone}
 use Rattle.batch_workers.specs.Working.Rounds.{BatchDone, HandedBack, HoldsAlone, NotCertified, RegisterDone, RoundDone, SealDone, rejecting_round, remaining}
 use Rattle.batch_workers.proofs.Returning.{back_works, wanted}
 use Rattle.batch_workers.proofs.Endings.{busy_from, busy_then, idle_from, idle_then, two_then}
@@ -107,8 +107,3 @@ pub ended : (pass : ℕ) (H : Type 0) (G : ParcelRecord → CertRecord → Type 
 ended pass H G a b c work.Drained w x = absurd x
 ended pass H G a b c work.OutOfMemory w x = busy_then pass a b c w x
 ended pass H G a b c (work.Rejected n fault) w x = (busy_then pass a b c w x.0, x.1)
-
-pub not_rejected : (pass : ℕ) (H : Type 0) (G : ParcelRecord → CertRecord → Type 0) (a c : DeskRecord) (e : WorkEnd) → WorkDone pass H G a c e → H → IsNotRejected e
-not_rejected pass H G a c work.Drained x h = tt
-not_rejected pass H G a c work.OutOfMemory x h = tt
-not_rejected pass H G a c (work.Rejected n fault) x h = x.1.1.faulty.not_honest h

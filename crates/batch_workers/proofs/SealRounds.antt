@@ -17,7 +17,7 @@ use Rattle.desk_core.proofs.SoundLemmas.{some_waiting, sound_sealed}
 use Rattle.desk_core.proofs.Turns.{all_small}
 use Rattle.batch_workers.specs.declared.round.Round.{Round}
 use Rattle.batch_workers.specs.declared.round.Round.TheVariants as round
-use Rattle.batch_workers.specs.Works.{AllRegistered, IsIdle, Works, is_nothing}
+use Rattle.batch_workers.specs.Works.{AllRegistered, IsIdle, Works, is_nothing, is_of_holder}
 use Rattle.batch_workers.specs.Working.Rounds.{Are, SealDone, remaining, sealing_round}
 use Rattle.batch_workers.proofs.Endings.{busy_from}
 use Rattle.batch_workers.proofs.Events.{one_event}
@@ -33,7 +33,7 @@ module _ (pass : ℕ) (old new : DeskRecord) (r : Reply) (good : IsGoodDesk old)
   none_waits is r_is same = (
     old.closed,
     (
-      subst (λ (x : Reply). Works pass (Are (entry_of pass event.Seal no_pie x ∷ [])) old new) r_is (one_event old new pass event.Seal r refl turn),
+      subst (λ (x : Reply). Works pass (Are (entry_of pass event.Seal no_pie x ∷ [])) old new) r_is (one_event old new pass event.Seal r refl (ap is_of_holder r_is) turn),
       (
         subst (IsIdle pass) (sym same) idle,
         λ alone. subst AllRegistered (sym same) (all_registered pass (plain_of old) good.sound none (eqb-true (length (waiting_jobs (plain_of old))) 0 is) idle alone),
@@ -51,7 +51,7 @@ module _ (pass : ℕ) (old new : DeskRecord) (r : Reply) (good : IsGoodDesk old)
 
   some_wait : (length (waiting_jobs (plain_of old)) == 0) ≡ false → r ≡ reply.SealedBatch (length (plain_of old).batches) → plain_of new ≡ with_batch (plain_of old) → SealDone pass old new round.Went
   some_wait is r_is grows = (
-    busy_from pass old new (entry_of pass event.Seal no_pie r) (ap is_nothing r_is) (one_event old new pass event.Seal r refl turn),
+    busy_from pass old new (entry_of pass event.Seal no_pie r) (ap is_nothing r_is) (one_event old new pass event.Seal r refl (ap is_of_holder r_is) turn),
     (
       subst (IsIdle pass) (sym grows) (idle_by pass phase.Sealed (λ q. cc) (plain_of old) (with_batch (plain_of old)) (λ k q x. phase_more (plain_of old).batches (next_batch (plain_of old)) k q x) idle),
       subst (λ (x : PlainDesk). remaining x < remaining (plain_of old)) (sym grows) (less is),

@@ -13,7 +13,7 @@ use Rattle.desk_core.specs.declared.reply.Reply.{Reply}
 use Rattle.desk_core.specs.declared.reply.Reply.TheVariants as reply
 use Rattle.desk_core.specs.Registrations.{pies_in}
 use Rattle.desk_core.proofs.SoundSteps.{first_is_sealed}
-use Rattle.batch_workers.specs.Works.{EndBusy, IsIdle, Works, is_nothing}
+use Rattle.batch_workers.specs.Works.{EndBusy, IsIdle, Works, is_nothing, is_of_holder}
 use Rattle.batch_workers.specs.Working.Rounds.{Are, HoldsAlone, remaining}
 use Rattle.batch_workers.proofs.Endings.{busy_from}
 use Rattle.batch_workers.proofs.Events.{one_event}
@@ -39,7 +39,7 @@ module _ (pass : ℕ) (old new : DeskRecord) (r : Reply) (idle : IsIdle pass (pl
   took_this b is r_is moved =
       let sealed = first_is_sealed (plain_of old) b is in
       record {
-        works = busy_from pass old new (entry_of pass event.Take no_pie r) (ap is_nothing r_is) (one_event old new pass event.Take r refl turn);
+        works = busy_from pass old new (entry_of pass event.Take no_pie r) (ap is_nothing r_is) (one_event old new pass event.Take r refl (ap is_of_holder r_is) turn);
         holds = subst (λ (x : PlainDesk). HoldsAlone pass x b (pies_in (tasks_at old b))) (sym moved)
             (subst (HoldsAlone pass (with_taken pass (plain_of old) b) b) (sym (pies_of_batch old.jobs old.batches b)) (holds_taken pass (plain_of old) b (plain_of old).registered idle sealed));
         less = subst (λ (x : PlainDesk). remaining x < remaining (plain_of old)) (sym moved) (less_taken (plain_of old) b (phase.Taken pass) (plain_of old).registered refl sealed);
@@ -53,7 +53,7 @@ module _ (pass : ℕ) (old new : DeskRecord) (r : Reply) (idle : IsIdle pass (pl
 
   none_at : (o : Option ℕ) → first_sealed (plain_of old) ≡ o → r ≡ take_reply o → plain_of new ≡ after_take (plain_of old) pass o → handed_out old r ≡ None → TookNone pass old new
   none_at None is r_is same out = record {
-    works = subst (λ (x : Reply). Works pass (Are (entry_of pass event.Take no_pie x ∷ [])) old new) r_is (one_event old new pass event.Take r refl turn);
+    works = subst (λ (x : Reply). Works pass (Are (entry_of pass event.Take no_pie x ∷ [])) old new) r_is (one_event old new pass event.Take r refl (ap is_of_holder r_is) turn);
     same = same;
     none = is;
   }

@@ -34,10 +34,17 @@ is_work (event.Ask client fact) = false
 is_work (event.Status client number) = false
 is_work event.Close = false
 
--- an entry of such an event, under this pass
+-- whether the reply says neither that the pass doesn't hold the batch nor that the parcel is another one
+abbrev pub is_of_holder : Reply → Bool
+is_of_holder (reply.NotTaken stands) = false
+is_of_holder (reply.Stranger i) = false
+is_of_holder r = true
+
+-- an entry of such an event, under this pass, whose reply says neither
 pub record IsWorkOf (pass : ℕ) (e : FullEntry) : Type 0 where
   pub own : e.entry.pass ≡ pass
   pub kind : is_work e.entry.event ≡ true
+  pub held : is_of_holder e.entry.reply ≡ true
 
 -- whether the reply is that no job waits
 abbrev pub is_nothing : Reply → Bool

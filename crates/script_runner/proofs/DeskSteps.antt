@@ -1,16 +1,16 @@
 -- What each line does to the desk.
-use Rattle.std.proofs.Common.{◌≡◌, ◌≢◌, ℕ, Bool, true, false, cond, List, [], ◌∷◌, refl, sym, ap, ◌∙◌}
+use Rattle.std.proofs.Common.{◌≡◌, ℕ, Bool, true, false, cond, List, [], ◌∷◌, refl, sym, ap, ◌∙◌}
 use Rattle.std.specs.Option.{option_map_or}
 use Rattle.std.specs.Prelude.{slice_get}
 use Rattle.cairo_model.specs.Pie.Acceptance.{FactRecord}
 use Rattle.cairo_model.specs.Pie.Records.{PieRecord}
 use Rattle.batch_workers.specs.Works.{is_work}
-use Rattle.desk_core.specs.DeskRecords.{DeskRecord, journal_of, plain_of}
+use Rattle.desk_core.specs.DeskRecords.{DeskRecord, plain_of}
 use Rattle.desk_core.specs.Desks.{PlainBatch, PlainDesk}
 use Rattle.desk_core.specs.Journals.{no_pie}
 use Rattle.desk_core.specs.Next.{after_event, submit_reply, with_job}
 use Rattle.desk_core.specs.Quotas.{is_admitted}
-use Rattle.desk_core.specs.Turns.{IsNewDesk, IsTurn, entry_of, offer_note, pie_of}
+use Rattle.desk_core.specs.Turns.{IsTurn, entry_of, offer_note, pie_of}
 use Rattle.desk_core.specs.declared.event.Event.{Event}
 use Rattle.desk_core.specs.declared.event.Event.TheVariants as event
 use Rattle.desk_core.specs.declared.offer.Offer.{Offer}
@@ -18,7 +18,7 @@ use Rattle.desk_core.specs.declared.phase.Phase.TheVariants as phase
 use Rattle.desk_core.specs.declared.reply.Reply.{Reply}
 use Rattle.desk_script.specs.Lines.{asks, asks_status, submits}
 use Rattle.session_desk.specs.Offers.{OffersBytes}
-use Rattle.script_runner.specs.Working.Doing.{DidLine, DidLines, NoneTaken}
+use Rattle.script_runner.specs.Working.Doing.{DidLine, NoneTaken}
 
 -- ---- batches stay where they are
 
@@ -78,16 +78,4 @@ asked_status client number old new r turn free = record {
   settled = tt;
   clients = turn.clients;
   free = free_after old new client (event.Status client number) no_pie r refl turn free;
-}
-
--- ---- the empty desk
-
-none_of_none : (b pass : ℕ) → option_map_or (λ (x : PlainBatch). x.phase) (slice_get [] b) phase.NoBatch ≢ phase.Taken pass
-none_of_none b pass is = absurd (cc)
-
-pub nothing_done : (clients : ℕ) (d : DeskRecord) → IsNewDesk clients d → DidLines clients [] d
-nothing_done clients d new = record {
-  in_turn = ap journal_of new;
-  count = ap (λ (x : DeskRecord). x.clients) new;
-  free = still_free (plain_of (record { clients = clients; jobs = []; batches = []; registry = []; entries = []; closed = false; turns = 0 })) (plain_of d) (ap (λ (x : DeskRecord). (plain_of x).batches) new) none_of_none;
 }
