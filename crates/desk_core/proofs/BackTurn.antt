@@ -20,6 +20,7 @@ use Rattle.desk_core.specs.declared.reply.Reply.{Reply}
 use Rattle.desk_core.specs.declared.reply.Reply.TheVariants as reply
 use Rattle.desk_core.specs.declared.usage.Usage.{Usage}
 use Rattle.desk_core.proofs.BatchLemmas.{phase_in}
+use Rattle.desk_core.proofs.CertLemmas.{certs_same, certs_stay_moved}
 use Rattle.desk_core.proofs.Entries.{registered_same}
 use Rattle.desk_core.proofs.NextSealed.{moved_step}
 use Rattle.desk_core.proofs.PlainTurns.{Left}
@@ -78,7 +79,7 @@ module _ (d : DeskRecord) (g : IsGoodDesk d) (pass b : ℕ) where
       quiet d g pass (event.GiveBack b) reply.Returned (batches_moved d.batches (Some b) phase.Sealed) d.registry d.closed refl tt
       (ap (λ (u : Bool). cond u reply.Returned (reply.NotTaken (phase_at (plain_of d) b))) (sym is))
       (goes ∙ ap (λ (u : Bool). cond u (after_give_back (plain_of d) b) (plain_of d)) (sym is))
-      (certs_moved d.jobs d.batches b phase.Sealed (λ e. cc) (taken_isnt pass (phase_at (plain_of d) b) phase.Registered is refl) g.certs)
+      (certs_stay_moved d.batches b phase.Sealed None) (certs_moved d.jobs d.batches b phase.Sealed (λ e. cc) (taken_isnt pass (phase_at (plain_of d) b) phase.Registered is refl) g.certs)
       (g.registry ∙ (ap (with_facts []) (sym (facts_moved (plain_of d) b phase.Sealed)) ∙ ap registry_of (sym goes)))
   back_at false is =
       let r : Reply = reply.NotTaken (phase_at (plain_of d) b) in
@@ -88,7 +89,7 @@ module _ (d : DeskRecord) (g : IsGoodDesk d) (pass b : ℕ) where
       quiet d g pass (event.GiveBack b) r d.batches d.registry d.closed refl tt
       (ap (λ (u : Bool). cond u reply.Returned r) (sym is))
       (stays ∙ ap (λ (u : Bool). cond u (after_give_back (plain_of d) b) (plain_of d)) (sym is))
-      g.certs (g.registry ∙ ap registry_of (sym stays))
+      (certs_same d.batches None) g.certs (g.registry ∙ ap registry_of (sym stays))
 
 pub back_leaves : (d : DeskRecord) (pass b : ℕ) (p : Phase) (o : Option ℕ) (r : Reply) (batches : List Batch) (entries : List Entry) (usages : List Usage) (places : List (Option ℕ)) (batched next next' : ℕ) → IsKept d usages places batched next
     → p ≡ phase_of_batch d.batches b → o ≡ held_number pass b (phase_of_batch d.batches b) → r ≡ given_back o p → batches ≡ batches_moved d.batches o phase.Sealed → next' ≡ earlier next o

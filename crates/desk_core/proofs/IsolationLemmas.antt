@@ -6,8 +6,8 @@ use Rattle.cairo_model.specs.Pie.Records.{PieRecord}
 use Rattle.cairo_model.specs.Pie.Shapes.{shape_of}
 use Rattle.cairo_model.specs.declared.shape.Shape.{Shape}
 use Rattle.desk_core.specs.Desks.{PlainDesk, PlainJob, jobs_of, shapes_of, waiting_jobs, first_sealed, empty_desk}
-use Rattle.desk_core.specs.Isolation.{Answered, answered_of, answers, offers_of, replies_of, Isolation, JournalsAreIsolated}
-use Rattle.desk_core.specs.Journals.{Move, move_of, after_move, IsOfferOf, OfferTheirPies, AllFollow, HasItsPie, no_pie}
+use Rattle.desk_core.specs.Isolation.{Answered, OfferTheirShapes, OffersShape, answered_of, answers, offers_of, replies_of, Isolation, JournalsAreIsolated}
+use Rattle.desk_core.specs.Journals.{Move, move_of, after_move, IsOfferOf, AllFollow, HasItsPie, no_pie}
 use Rattle.desk_core.specs.declared.entry.FullEntry.{FullEntry}
 use Rattle.std.specs.Prelude.{unwrap_or}
 use Rattle.desk_core.specs.Quotas.{quota_reply, is_admitted, replies_to, own_verdict}
@@ -105,7 +105,7 @@ module _ (c client : ℕ) (shape : Shape) (fact : FactRecord) (pie : PieRecord) 
       fine ∙ ap (λ (ss : List Shape). replies_to ss (offers_of c rest)) after
 
 step : (c : ℕ) (e : Event) (pass : ℕ) (pie : PieRecord) (d : PlainDesk) (rest : List Answered) → d.closed ≡ false
-    → (is_admitted (reply_to d pass e) ≡ true → IsOfferOf pie e)
+    → (is_admitted (reply_to d pass e) ≡ true → OffersShape pie e)
     → ((after_event d pass e pie).closed ≡ false → Fine c rest (after_event d pass e pie).jobs)
     → Fine c (entry_at d pass e ∷ rest) d.jobs
 unfolding reply_to after_event
@@ -113,7 +113,7 @@ step c (event.Submit client (note.Refused r)) pass pie d rest opened fits go = r
 step c (event.Submit client (note.Accepted shape fact)) pass pie d rest opened fits go =
     let by : cond d.closed reply.Closed (quota_reply (shapes_of client d.jobs) shape) ≡ quota_reply (shapes_of client d.jobs) shape = rw opened in
     let keeps = closed_either d (is_admitted (cond d.closed reply.Closed (quota_reply (shapes_of client d.jobs) shape))) (with_job d client pie) d refl refl in
-    by_client c client shape fact pie d rest _ by (λ is. (fits is).0) (go (keeps ∙ opened)) (client == c) refl
+    by_client c client shape fact pie d rest _ by fits (go (keeps ∙ opened)) (client == c) refl
 step c event.Seal pass pie d rest opened fits go = still c rest d _ (keeps_either d (length (waiting_jobs d) == 0) _ _ (kept d) (record { closed = refl; jobs = refl })) opened go
 step c event.Take pass pie d rest opened fits go = still c rest d _ (keeps_taken d pass (first_sealed d)) opened go
 step c (event.Register b differs) pass pie d rest opened fits go = still c rest d _ (keeps_either d _ _ _ (keeps_registers d b differs) (kept d)) opened go
@@ -122,7 +122,7 @@ step c (event.Ask client fact) pass pie d rest opened fits go = go opened
 step c (event.Status client number) pass pie d rest opened fits go = go opened
 step c event.Close pass pie d rest opened fits go = refl
 
-isolated : (c : ℕ) (ms : List Move) (d : PlainDesk) → d.closed ≡ false → OfferTheirPies d ms → Fine c (answers d ms) d.jobs
+isolated : (c : ℕ) (ms : List Move) (d : PlainDesk) → d.closed ≡ false → OfferTheirShapes d ms → Fine c (answers d ms) d.jobs
 isolated c [] d opened fits = refl
 isolated c (m ∷ ms) d opened fits = step c m.event m.pass m.pie d (answers (after_move d m) ms) opened fits.0 (λ opened'. isolated c ms (after_move d m) opened' fits.1)
 
@@ -140,10 +140,23 @@ pub of_its_pie : (b : Bool) (o : Option PieRecord) (e : Event) → HasItsPie b o
 of_its_pie true o e h is = subst (λ (p : Option PieRecord). IsOfferOf (unwrap_or p no_pie) e) (sym h.1) h.2
 of_its_pie false o e h is = absurd (cc)
 
-offer_theirs : (d : PlainDesk) (es : List FullEntry) → AllFollow d es → OfferTheirPies d (map move_of es)
+shape_offered : (pie : PieRecord) (e : Event) → IsOfferOf pie e → OffersShape pie e
+shape_offered pie (event.Submit client (note.Accepted shape fact)) is = is.0
+shape_offered pie (event.Submit client (note.Refused r)) is = tt
+shape_offered pie event.Seal is = tt
+shape_offered pie event.Take is = tt
+shape_offered pie (event.Register b differs) is = tt
+shape_offered pie (event.GiveBack b) is = tt
+shape_offered pie (event.Ask client fact) is = tt
+shape_offered pie (event.Status client number) is = tt
+shape_offered pie event.Close is = tt
+
+offer_theirs : (d : PlainDesk) (es : List FullEntry) → AllFollow d es → OfferTheirShapes d (map move_of es)
 offer_theirs d [] all = tt
-offer_theirs d (e ∷ es) all =
-    ((λ is. of_its_pie (is_admitted e.entry.reply) e.pie e.entry.event all.0.has_pie (ap is_admitted all.0.replies ∙ is)), offer_theirs (after_move d (move_of e)) es all.1)
+offer_theirs d (e ∷ es) all = (
+  λ is. shape_offered (move_of e).pie e.entry.event (of_its_pie (is_admitted e.entry.reply) e.pie e.entry.event all.0.has_pie (ap is_admitted all.0.replies ∙ is)),
+  offer_theirs (after_move d (move_of e)) es all.1,
+)
 
 pub journals_are_isolated : JournalsAreIsolated
 journals_are_isolated journal d legal client =

@@ -14,6 +14,7 @@ pub mod Turns
 pub mod Usages
 pub mod Places
 pub mod SubmitTurn
+pub mod CertLemmas
 pub mod QuietTurns
 pub mod NextSealed
 pub mod SealTurn

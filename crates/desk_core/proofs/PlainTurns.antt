@@ -1,6 +1,6 @@
 -- Closing and asking are turns.
 use Rattle.std.proofs.Common.{◌≡◌, ◌↔◌, inl, inr, ℕ, ◌+◌, ◌%◌, ◌^◌, ◌<◌, Bool, true, false, cond, List, [], ◌∷◌, ◌++◌, map, refl, sym, ap, ◌∙◌, subst, arith}
-use Rattle.std.specs.Prelude.{Contains, IsTrue, Option}
+use Rattle.std.specs.Prelude.{Contains, IsTrue, None, Option}
 use Rattle.std.specs.List.{list_any}
 use Rattle.cairo_model.specs.Pie.Acceptance.{FactRecord}
 use Rattle.cairo_model.specs.Pie.FactOrder.{same_fact}
@@ -21,6 +21,7 @@ use Rattle.desk_core.specs.declared.event.Event.TheVariants as event
 use Rattle.desk_core.specs.declared.reply.Reply.{Reply}
 use Rattle.desk_core.specs.declared.reply.Reply.TheVariants as reply
 use Rattle.desk_core.specs.declared.usage.Usage.{Usage}
+use Rattle.desk_core.proofs.CertLemmas.{certs_same}
 use Rattle.desk_core.proofs.Entries.{registered_same}
 use Rattle.desk_core.proofs.QuietTurns.{Quiet, quiet, quiet_desk}
 
@@ -41,7 +42,7 @@ module _ (d : DeskRecord) (pass : ℕ) (entries : List Entry) (usages : List Usa
       let same : registered_in (d.entries ++ x ∷ []) ≡ registered_in d.entries = registered_same d.entries x refl in
       quiet d k.good pass event.Close reply.Closed d.batches d.registry true refl tt refl
       (λ i. record { clients = d.clients; jobs = map plain_job d.jobs; batches = map plain_batch d.batches; registered = same i; closed = true })
-      k.good.certs
+      (certs_same d.batches None) k.good.certs
       (k.good.registry ∙ (λ i. registry_of (record { clients = d.clients; jobs = map plain_job d.jobs; batches = map plain_batch d.batches; registered = sym same i; closed = true })))
 
   pub closed_leaves : entries ≡ d.entries ++ record { pass = pass; event = event.Close; reply = reply.Closed } ∷ []
@@ -89,7 +90,7 @@ asked_leaves d pass client fact copy r entries usages places batched next k name
     let not_in : is_admitted r ≡ false = ap is_admitted r_is ∙ not_admitted (list_any (same_fact fact) d.registry) in
     let stays : plain_of (quiet_desk d pass e r d.batches d.registry d.closed) ≡ plain_of d =
     λ i. record { clients = d.clients; jobs = map plain_job d.jobs; batches = map plain_batch d.batches; registered = registered_same d.entries x refl i; closed = d.closed } in
-    let q = quiet d k.good pass e r d.batches d.registry d.closed not_in named by stays k.good.certs (k.good.registry ∙ ap registry_of (sym stays)) in
+    let q = quiet d k.good pass e r d.batches d.registry d.closed not_in named by stays (certs_same d.batches None) k.good.certs (k.good.registry ∙ ap registry_of (sym stays)) in
     let all : entries ≡ d.entries ++ x ∷ [] = are ∙ ap (λ (f : FactRecord). d.entries ++ record { pass = pass; event = event.Ask client f; reply = r } ∷ []) copy_is in
     let same : quiet_desk d pass e r d.batches d.registry d.closed ≡ record d { entries = entries; turns = (d.turns + 1) % 2 ^ 64 } =
     λ i. record d { entries = sym all i; turns = (d.turns + 1) % 2 ^ 64 } in

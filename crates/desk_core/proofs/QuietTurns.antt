@@ -3,9 +3,9 @@ use Rattle.std.proofs.Common.{◌≡◌, ℕ, ◌+◌, ◌%◌, ◌^◌, Bool, t
 use Rattle.std.specs.Prelude.{All, Option, Some, None}
 use Rattle.cairo_model.specs.Pie.Acceptance.{FactRecord}
 use Rattle.cairo_model.specs.Pie.Records.{PieRecord}
-use Rattle.desk_core.specs.DeskRecords.{DeskRecord, admitted_in, journal_of, pies_of, plain_of}
+use Rattle.desk_core.specs.DeskRecords.{DeskRecord, admitted_in, journal_of, pies_of, plain_of, registers_at}
 use Rattle.desk_core.specs.GoodDesks.{IsGoodDesk, KeepsCert}
-use Rattle.desk_core.specs.Turns.{IsTurn}
+use Rattle.desk_core.specs.Turns.{CertsStay, IsTurn}
 use Rattle.desk_core.specs.Journals.{NamesClient, HasItsPie, no_pie}
 use Rattle.desk_core.specs.Quotas.{is_admitted}
 use Rattle.desk_core.specs.RegisteredFacts.{registry_of}
@@ -42,9 +42,9 @@ pub record Quiet (d new : DeskRecord) (pass : ℕ) (e : Event) (r : Reply) : Typ
 pub quiet : (d : DeskRecord) → IsGoodDesk d → (pass : ℕ) (e : Event) (r : Reply) (batches : List Batch) (registry : List FactRecord) (closed : Bool)
     → is_admitted r ≡ false → NamesClient d.clients e → r ≡ reply_to (plain_of d) pass e
     → plain_of (quiet_desk d pass e r batches registry closed) ≡ after_event (plain_of d) pass e no_pie
-    → All (KeepsCert d.jobs) batches → registry ≡ registry_of (plain_of (quiet_desk d pass e r batches registry closed))
+    → CertsStay d.batches batches (registers_at e r) → All (KeepsCert d.jobs) batches → registry ≡ registry_of (plain_of (quiet_desk d pass e r batches registry closed))
     → Quiet d (quiet_desk d pass e r batches registry closed) pass e r
-quiet d g pass e r batches registry closed not_in names by becomes certs registry_is =
+quiet d g pass e r batches registry closed not_in names by becomes stay certs registry_is =
     let x : Entry = record { pass = pass; event = e; reply = r } in
     let turn : IsTurn d (quiet_desk d pass e r batches registry closed) pass e no_pie r = record {
       replies = by;
@@ -52,6 +52,7 @@ quiet d g pass e r batches registry closed not_in names by becomes certs registr
       journal = full_same d.entries x (pies_of d.jobs) not_in ∙ ap (λ (p : Option PieRecord). journal_of d ++ record { entry = x; pie = p } ∷ []) (sym (none_then (is_admitted r) no_pie not_in));
       turns = refl;
       clients = refl;
+      certs = stay;
     } in
     let counts : admitted_in (d.entries ++ x ∷ []) ≡ length d.jobs = admitted_more d.entries x ∙ rw not_in (omega (arith, g.counts)) in
     record {

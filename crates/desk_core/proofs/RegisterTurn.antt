@@ -15,7 +15,7 @@ use Rattle.desk_core.specs.DeskRecords.{DeskRecord, plain_batch, plain_job, plai
 use Rattle.desk_core.specs.Desks.{PlainBatch, PlainJob, is_sealed, is_taken_by, jobs_at, phase_at, set_phase, shown_facts}
 use Rattle.desk_core.specs.Quotas.{is_admitted}
 use Rattle.desk_core.specs.Journals.{no_pie}
-use Rattle.desk_core.specs.Turns.{IsTurn}
+use Rattle.desk_core.specs.Turns.{IsTurn, cert_at}
 use Rattle.desk_core.specs.GoodDesks.{IsAcceptedJob, IsGoodDesk, KeepsCert}
 use Rattle.desk_core.specs.Kept.{IsKept, before_sealed, jobs_batched}
 use Rattle.desk_core.specs.Next.{after_event, after_register, parcel_reply, reply_to}
@@ -35,6 +35,7 @@ use Rattle.desk_core.specs.declared.reply.Reply.{Reply}
 use Rattle.desk_core.specs.declared.reply.Reply.TheVariants as reply
 use Rattle.desk_core.specs.declared.usage.Usage.{Usage}
 use Rattle.desk_core.proofs.BackTurn.{phase_same, taken_isnt}
+use Rattle.desk_core.proofs.CertLemmas.{certs_same}
 use Rattle.desk_core.proofs.Entries.{registered_same}
 use Rattle.desk_core.proofs.FactLemmas.{fact_is}
 use Rattle.desk_core.proofs.ListFacts.{sum_cons}
@@ -86,10 +87,17 @@ certs_certified jobs (x ∷ bs) (suc b) cert is all =
     subst (All (KeepsCert jobs)) (sym (certified_step x bs b cert))
     (All-cons (KeepsCert jobs) x (certified_at bs b cert) (All-head (KeepsCert jobs) x bs all) (certs_certified jobs bs b cert is (All-tail (KeepsCert jobs) x bs all)))
 
-cert_there : (bs : List Batch) (b : ℕ) (cert : CertRecord) → phase_of_batch bs b ≢ phase.NoBatch → option_map (λ (x : Batch). x.cert) (slice_get (certified_at bs b cert) b) ≡ Some (Some cert)
+cert_there : (bs : List Batch) (b : ℕ) (cert : CertRecord) → phase_of_batch bs b ≢ phase.NoBatch → cert_at (certified_at bs b cert) b ≡ Some (Some cert)
 cert_there [] b cert stands = absurd (stands refl)
 cert_there (x ∷ bs) zero cert stands = refl
-cert_there (x ∷ bs) (suc b) cert stands = ap (λ (xs : List Batch). option_map (λ (y : Batch). y.cert) (slice_get xs (suc b))) (certified_step x bs b cert) ∙ cert_there bs b cert stands
+cert_there (x ∷ bs) (suc b) cert stands = ap (λ (xs : List Batch). cert_at xs (suc b)) (certified_step x bs b cert) ∙ cert_there bs b cert stands
+
+certified_else : (bs : List Batch) (k : ℕ) (cert : CertRecord) (b : ℕ) (x : Batch) → k ≢ b → slice_get bs b ≡ Some x → cert_at (certified_at bs k cert) b ≡ Some x.cert
+certified_else [] k cert b x other at = absurd (cc)
+certified_else (y ∷ bs) zero cert zero x other at = absurd (other refl)
+certified_else (y ∷ bs) zero cert (suc b) x other at = ap (option_map (λ (z : Batch). z.cert)) at
+certified_else (y ∷ bs) (suc k) cert zero x other at = ap (λ (xs : List Batch). cert_at xs 0) (certified_step y bs k cert) ∙ ap (option_map (λ (z : Batch). z.cert)) at
+certified_else (y ∷ bs) (suc k) cert (suc b) x other at = ap (λ (xs : List Batch). cert_at xs (suc b)) (certified_step y bs k cert) ∙ certified_else bs k cert b x (λ same. other (ap suc same)) at
 
 -- ---- its tasks and its facts
 
@@ -140,7 +148,7 @@ module _ (d : DeskRecord) (g : IsGoodDesk d) (pass b : ℕ) where
       quiet d g pass (event.Register b differs) r d.batches d.registry d.closed (ap is_admitted r_is) tt
       (r_is ∙ ap (λ (u : Bool). cond u (parcel_reply differs) (reply.NotTaken (phase_at (plain_of d) b))) (sym is))
       (stays ∙ ap (λ (u : Bool). cond u (after_register (plain_of d) b differs) (plain_of d)) (sym is))
-      g.certs (g.registry ∙ ap registry_of (sym stays))
+      (certs_same d.batches (registers_at (event.Register b differs) r)) g.certs (g.registry ∙ ap registry_of (sym stays))
 
   strange_at : (k : ℕ) → is_taken_by pass (phase_at (plain_of d) b) ≡ true
       → Quiet d (quiet_desk d pass (event.Register b (Some k)) (reply.Stranger k) d.batches d.registry d.closed) pass (event.Register b (Some k)) (reply.Stranger k)
@@ -152,7 +160,7 @@ module _ (d : DeskRecord) (g : IsGoodDesk d) (pass b : ℕ) where
       quiet d g pass (event.Register b (Some k)) (reply.Stranger k) d.batches d.registry d.closed refl tt
       (ap (λ (u : Bool). cond u (reply.Stranger k) (reply.NotTaken (phase_at (plain_of d) b))) (sym is))
       (stays ∙ ap (λ (u : Bool). cond u (plain_of d) (plain_of d)) (sym is))
-      g.certs (g.registry ∙ ap registry_of (sym stays))
+      (certs_same d.batches None) g.certs (g.registry ∙ ap registry_of (sym stays))
 
   refused_at : (t : Bool) (differs : Option ℕ) → is_taken_by pass (phase_at (plain_of d) b) ≡ t → is_welcome (held t) differs ≡ false
       → Quiet d (quiet_desk d pass (event.Register b differs) (said t differs) d.batches d.registry d.closed) pass (event.Register b differs) (said t differs)
@@ -175,6 +183,7 @@ module _ (d : DeskRecord) (g : IsGoodDesk d) (pass b : ℕ) where
       quiet d g pass (event.Register b None) reply.Registered (certified_at d.batches b cert) added d.closed refl tt
       (ap (λ (u : Bool). cond u reply.Registered (reply.NotTaken (phase_at (plain_of d) b))) (sym is))
       (goes ∙ ap (λ (u : Bool). cond u (after_register (plain_of d) b None) (plain_of d)) (sym is))
+      (λ k y at other. certified_else d.batches b cert k y (λ same. other (ap Some same)) at)
       (certs_certified d.jobs d.batches b cert (λ y at. (subst (AcceptsBatch cert) (tasks_of d b y at) accepted, subst (AllStandIn cert) (tasks_of d b y at) stand)) g.certs)
       (facts ∙ (ap (with_facts []) (sym (facts_registered (plain_of d) b)) ∙ ap registry_of (sym goes)))
 
@@ -272,7 +281,7 @@ registered_leaves d pass b p o differs r certified cert parcel registry facts ba
         turn = y.turn;
       };
       is_registered = r_same;
-      keeps = ap (λ (xs : List Batch). option_map (λ (z : Batch). z.cert) (slice_get xs b)) (sym bs) ∙ cert_there d.batches b certified.cert (λ none. taken_isnt pass (phase_at (plain_of d) b) phase.NoBatch taken refl (sym at ∙ none));
+      keeps = ap (λ (xs : List Batch). cert_at xs b) (sym bs) ∙ cert_there d.batches b certified.cert (λ none. taken_isnt pass (phase_at (plain_of d) b) phase.NoBatch taken refl (sym at ∙ none));
     }
 
 -- ---- where the parcel differs

@@ -26,9 +26,6 @@ same_lists (suc n) (x ∷ xs) (y ∷ ys) short short' same =
 pub same_mapped : {X Y : Type 0} (f : X → Y) (n : ℕ) (xs ys : List X) → length xs ≤ n → length ys ≤ n → ((k : ℕ) → k < n → slice_get (map f xs) k ≡ slice_get (map f ys) k) → map f xs ≡ map f ys
 same_mapped f n xs ys short short' same = same_lists n (map f xs) (map f ys) (omega (arith, short, length-map xs f)) (omega (arith, short', length-map ys f)) same
 
-pub pie_is : (one other : PieRecord) → one.main ≡ other.main → one.steps ≡ other.steps → one.sizes ≡ other.sizes → one.cells ≡ other.cells → one ≡ other
-pie_is one other main steps sizes cells = λ i. record { main = main i; steps = steps i; sizes = sizes i; cells = cells i }
-
 -- an accepted PIE has one fact and one run
 pub task_is : (one other : CheckedRecord) → AcceptedWith one.pie one.fact one.states → AcceptedWith other.pie other.fact other.states → one.pie ≡ other.pie → one ≡ other
 task_is one other accepted accepted' same =

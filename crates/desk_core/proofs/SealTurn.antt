@@ -18,7 +18,7 @@ use Rattle.desk_core.specs.Next.{after_event, next_batch, reply_to}
 use Rattle.desk_core.specs.NextBatch.{longest_cut}
 use Rattle.desk_core.specs.RegisteredFacts.{registry_of}
 use Rattle.desk_core.specs.SoundDesks.{shapes_in}
-use Rattle.desk_core.specs.Turns.{IsTurn}
+use Rattle.desk_core.specs.Turns.{CertsStay, IsTurn}
 use Rattle.desk_core.specs.Journals.{no_pie}
 use Rattle.desk_core.specs.Working.Steps.{most_jobs, sealed_batches, sealed_with}
 use Rattle.desk_core.specs.declared.batch.Batch.{Batch}
@@ -29,6 +29,7 @@ use Rattle.desk_core.specs.declared.phase.Phase.TheVariants as phase
 use Rattle.desk_core.specs.declared.reply.Reply.{Reply}
 use Rattle.desk_core.specs.declared.reply.Reply.TheVariants as reply
 use Rattle.desk_core.specs.declared.usage.Usage.{Usage}
+use Rattle.desk_core.proofs.CertLemmas.{certs_same, certs_stay_grown}
 use Rattle.desk_core.proofs.Counting.{few_batches}
 use Rattle.desk_core.proofs.CutLemmas.{cut_is_longest}
 use Rattle.desk_core.proofs.Entries.{registered_same}
@@ -90,7 +91,7 @@ module _ (d : DeskRecord) (g : IsGoodDesk d) (pass first count : ℕ) (first_is 
         quiet d g pass event.Seal (reply.NothingWaiting d.closed) (sealed_batches d.batches first count) d.registry d.closed refl tt
             (ap (λ (b : Bool). cond b (reply.NothingWaiting d.closed) (reply.SealedBatch (length (map plain_batch d.batches)))) (sym test))
             (stays ∙ ap (λ (b : Bool). cond b (plain_of d) (record (plain_of d) { batches = map plain_batch d.batches ++ next_batch (plain_of d) ∷ [] })) (sym test))
-            (subst (All (KeepsCert d.jobs)) (sym same) g.certs) (g.registry ∙ ap registry_of (sym stays)),
+            (subst (λ (bs : List Batch). CertsStay d.batches bs None) (sym same) (certs_same d.batches None)) (subst (All (KeepsCert d.jobs)) (sym same) g.certs) (g.registry ∙ ap registry_of (sym stays)),
       )
   sealed_at false is =
       let test : (length (waiting_jobs (plain_of d)) == 0) ≡ false = ap (λ (n : ℕ). n == 0) length_is ∙ is in
@@ -107,6 +108,7 @@ module _ (d : DeskRecord) (g : IsGoodDesk d) (pass first count : ℕ) (first_is 
         quiet d g pass event.Seal (reply.SealedBatch (length d.batches)) (sealed_batches d.batches first count) d.registry d.closed refl tt
             (ap reply.SealedBatch (sym (length-map d.batches plain_batch)) ∙ ap (λ (b : Bool). cond b (reply.NothingWaiting d.closed) (reply.SealedBatch (length (map plain_batch d.batches)))) (sym test))
             (grows ∙ ap (λ (b : Bool). cond b (plain_of d) (record (plain_of d) { batches = map plain_batch d.batches ++ next_batch (plain_of d) ∷ [] })) (sym test))
+            (subst (λ (bs : List Batch). CertsStay d.batches bs None) (sym grown) (certs_stay_grown d.batches new_batch None))
             (subst (All (KeepsCert d.jobs)) (sym grown) (All-push (KeepsCert d.jobs) d.batches new_batch g.certs (record { has = λ at. absurd (cc); has_none = λ ne. refl })))
             (g.registry ∙ (ap (with_facts []) (sym (facts_sealed (plain_of d) g.sound (next_batch (plain_of d)))) ∙ ap registry_of (sym grows))),
       )

@@ -27,6 +27,7 @@ use Rattle.desk_core.specs.declared.offer.Offer.{Offer}
 use Rattle.desk_core.specs.declared.offer.Offer.TheVariants as offer
 use Rattle.desk_core.specs.declared.reply.Reply.{Reply}
 use Rattle.desk_core.specs.declared.reply.Reply.TheVariants as reply
+use Rattle.desk_core.proofs.CertLemmas.{certs_same}
 use Rattle.desk_core.proofs.Entries.{full_same, full_new, admitted_more, registered_same}
 use Rattle.desk_core.proofs.FactLemmas.{fact_is}
 use Rattle.desk_core.proofs.ListFacts.{stretch_more}
@@ -90,6 +91,7 @@ module _ (d : DeskRecord) (g : IsGoodDesk d) (pass client : ℕ) (named : client
             ∙ ap (λ (p : Option PieRecord). journal_of d ++ record { entry = e; pie = p } ∷ []) (sym (no_pie_then (is_admitted r) (pie_of o) not_in)));
         turns = refl;
         clients = refl;
+        certs = certs_same d.batches None;
       };
       has = has_none (is_admitted r) (pie_of o) not_in;
       left = record {
@@ -144,6 +146,7 @@ module _ (d : DeskRecord) (g : IsGoodDesk d) (pass client : ℕ) (named : client
             ∙ full_new d.entries f (pies_of d.jobs) c.pie (g.counts ∙ sym (length-map d.jobs (λ (j : Job). j.checked.pie))) refl;
         turns = refl;
         clients = refl;
+        certs = certs_same d.batches None;
       };
       has = (c.pie, refl, (refl, fact_is c.pie c.fact acc.shows));
       left = record {

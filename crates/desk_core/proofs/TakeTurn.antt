@@ -33,6 +33,7 @@ use Rattle.desk_core.specs.declared.reply.Reply.{Reply}
 use Rattle.desk_core.specs.declared.reply.Reply.TheVariants as reply
 use Rattle.desk_core.specs.declared.usage.Usage.{Usage}
 use Rattle.desk_core.proofs.BatchLemmas.{phase_in}
+use Rattle.desk_core.proofs.CertLemmas.{certs_same, certs_stay_moved}
 use Rattle.desk_core.proofs.Entries.{registered_same}
 use Rattle.desk_core.proofs.ListFacts.{sum_cons}
 use Rattle.desk_core.proofs.NextSealed.{first_is, moved_step}
@@ -63,14 +64,14 @@ module _ (d : DeskRecord) (g : IsGoodDesk d) (pass : ℕ) where
       let x : Entry = record { pass = pass; event = event.Take; reply = reply.NothingSealed } in
       let stays : plain_of (quiet_desk d pass event.Take reply.NothingSealed d.batches d.registry d.closed) ≡ plain_of d =
       λ i. record { clients = d.clients; jobs = map plain_job d.jobs; batches = map plain_batch d.batches; registered = registered_same d.entries x refl i; closed = d.closed } in
-      quiet d g pass event.Take reply.NothingSealed d.batches d.registry d.closed refl tt (ap take_reply (sym is)) (stays ∙ ap (after_take (plain_of d) pass) (sym is)) g.certs (g.registry ∙ ap registry_of (sym stays))
+      quiet d g pass event.Take reply.NothingSealed d.batches d.registry d.closed refl tt (ap take_reply (sym is)) (stays ∙ ap (after_take (plain_of d) pass) (sym is)) (certs_same d.batches None) g.certs (g.registry ∙ ap registry_of (sym stays))
   taken_at (Some b) is =
       let x : Entry = record { pass = pass; event = event.Take; reply = reply.TakenBatch b } in
       let at : phase_at (plain_of d) b ≡ phase.Sealed = first_is_sealed (plain_of d) b is in
       let goes : plain_of (quiet_desk d pass event.Take (reply.TakenBatch b) (batches_moved d.batches (Some b) (phase.Taken pass)) d.registry d.closed) ≡ record (plain_of d) { batches = set_phase (map plain_batch d.batches) b (phase.Taken pass) } =
       λ i. record { clients = d.clients; jobs = map plain_job d.jobs; batches = moved_plain d.batches b (phase.Taken pass) i; registered = registered_same d.entries x refl i; closed = d.closed } in
       quiet d g pass event.Take (reply.TakenBatch b) (batches_moved d.batches (Some b) (phase.Taken pass)) d.registry d.closed refl tt (ap take_reply (sym is)) (goes ∙ ap (after_take (plain_of d) pass) (sym is))
-      (certs_moved d.jobs d.batches b (phase.Taken pass) (λ e. cc) (λ e. cc) g.certs)
+      (certs_stay_moved d.batches b (phase.Taken pass) None) (certs_moved d.jobs d.batches b (phase.Taken pass) (λ e. cc) (λ e. cc) g.certs)
       (g.registry ∙ (ap (with_facts []) (sym (facts_moved (plain_of d) b (phase.Taken pass))) ∙ ap registry_of (sym goes)))
 
 count_same : (bs : List Batch) (b : ℕ) (p : Phase) → jobs_batched bs ≡ jobs_batched (batches_moved bs (Some b) p)

@@ -1,6 +1,6 @@
 -- Telling where a job stands is a turn.
 use Rattle.std.proofs.Common.{◌≡◌, ℕ, zero, suc, ◌+◌, ◌%◌, ◌^◌, ◌≤◌, ◌<◌, ◌&&◌, Bool, true, false, cond, List, [], ◌∷◌, ◌++◌, length, map, get_or, refl, sym, ap, ◌∙◌, subst, arith}
-use Rattle.std.specs.Prelude.{Option, Some, find, nat_le, nat_lt}
+use Rattle.std.specs.Prelude.{None, Option, Some, find, nat_le, nat_lt}
 use Rattle.std.specs.List.Sorted.{IsPartitionPoint}
 use Rattle.std.specs.Option.{option_map_or}
 use Rattle.std.proofs.lemmas.Bool.{leb-true, le-leb}
@@ -21,6 +21,7 @@ use Rattle.desk_core.specs.declared.phase.JobPhase.TheVariants as at
 use Rattle.desk_core.specs.declared.reply.Reply.{Reply}
 use Rattle.desk_core.specs.declared.reply.Reply.TheVariants as reply
 use Rattle.desk_core.specs.declared.usage.Usage.{Usage}
+use Rattle.desk_core.proofs.CertLemmas.{certs_same}
 use Rattle.desk_core.proofs.Entries.{registered_same}
 use Rattle.desk_core.proofs.Places.{index_is, neither}
 use Rattle.desk_core.proofs.PlainTurns.{Left}
@@ -121,7 +122,7 @@ told_leaves d pass client number p entries usages places batched next k named p_
     let by : r ≡ reply.IsAt (job_phase (plain_of d) client number) = ap reply.IsAt (p_is ∙ phase_told d usages places batched next k client number) in
     let stays : plain_of (quiet_desk d pass e r d.batches d.registry d.closed) ≡ plain_of d =
     λ i. record { clients = d.clients; jobs = map plain_job d.jobs; batches = map plain_batch d.batches; registered = registered_same d.entries x refl i; closed = d.closed } in
-    let q = quiet d k.good pass e r d.batches d.registry d.closed refl named by stays k.good.certs (k.good.registry ∙ ap registry_of (sym stays)) in
+    let q = quiet d k.good pass e r d.batches d.registry d.closed refl named by stays (certs_same d.batches None) k.good.certs (k.good.registry ∙ ap registry_of (sym stays)) in
     let same : quiet_desk d pass e r d.batches d.registry d.closed ≡ record d { entries = entries; turns = (d.turns + 1) % 2 ^ 64 } =
     λ i. record d { entries = sym are i; turns = (d.turns + 1) % 2 ^ 64 } in
     let left = subst (λ (n : DeskRecord). Quiet d n pass e r) same q in

@@ -52,11 +52,6 @@ IsOfferOf pie (event.Ask client fact) = Unit {0}
 IsOfferOf pie (event.Status client number) = Unit {0}
 IsOfferOf pie event.Close = Unit {0}
 
--- each offer that is admitted is of the PIE that goes with it
-abbrev pub OfferTheirPies : PlainDesk → List Move → Type 0
-OfferTheirPies d [] = Unit {0}
-OfferTheirPies d (m ∷ ms) = (is_admitted (reply_at d m) ≡ true → IsOfferOf m.pie m.event) × OfferTheirPies (after_move d m) ms
-
 -- the client that an event names is one of them
 abbrev pub NamesClient : ℕ → Event → Type 0
 NamesClient clients (event.Submit client n) = client < clients

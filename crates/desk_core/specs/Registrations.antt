@@ -1,11 +1,11 @@
 -- What registering a batch owes: where the parcel differs from the batch, and what comes back.
-use Rattle.std.specs.Prelude.{ℕ, ◌≡◌, ◌<◌, List, map, Option, Some, None, option_map, slice_get}
+use Rattle.std.specs.Prelude.{ℕ, ◌≡◌, ◌<◌, List, map, Option, Some, None, slice_get}
 use Rattle.cairo_model.specs.Pie.Acceptance.{CheckedRecord}
 use Rattle.cairo_model.specs.Pie.Records.{PieRecord}
 use Rattle.boot_program.specs.Batch.Parcels.{CertifiedRecord}
 use Rattle.desk_core.specs.DeskRecords.{DeskRecord, tasks_at}
 use Rattle.desk_core.specs.Journals.{no_pie}
-use Rattle.desk_core.specs.Turns.{IsTurn, turned}
+use Rattle.desk_core.specs.Turns.{IsTurn, cert_at, turned}
 use Rattle.desk_core.specs.declared.event.Event.TheVariants.{Register}
 use Rattle.desk_core.specs.declared.register_end.RegisterEnd.{RegisterEnd}
 use Rattle.desk_core.specs.declared.register_end.RegisterEnd.TheVariants as end
@@ -32,7 +32,7 @@ pub record IsRegistering (old new : DeskRecord) (pass b : ℕ) (certified : Cert
 
 -- the batch of this number keeps just this certificate
 abbrev pub KeepsJust : DeskRecord → ℕ → CertifiedRecord → Type 0
-KeepsJust d b certified = option_map (λ x. x.cert) (slice_get d.batches b) ≡ Some (Some certified.cert)
+KeepsJust d b certified = cert_at d.batches b ≡ Some (Some certified.cert)
 
 -- What isn't registered comes back. After want of memory only the count of turns differs.
 abbrev pub IsRegisterEnd : DeskRecord → DeskRecord → ℕ → ℕ → CertifiedRecord → RegisterEnd → Type 0

@@ -1,13 +1,15 @@
 -- What the calls of a desk do to it.
-use Rattle.std.specs.Prelude.{ℕ, ◌≡◌, ◌+◌, ◌%◌, ◌^◌, false, [], ◌∷◌, ◌++◌, map, Option, Some, None, if◌then◌else◌}
+use Rattle.std.specs.Prelude.{ℕ, ◌≡◌, ◌≢◌, ◌+◌, ◌%◌, ◌^◌, false, List, [], ◌∷◌, ◌++◌, map, slice_get, Option, Some, None, option_map, if◌then◌else◌}
+use Rattle.cairo_model.specs.Certificate.Records.{CertRecord}
 use Rattle.cairo_model.specs.Pie.Records.{PieRecord}
 use Rattle.cairo_model.specs.Pie.Shapes.{shape_of}
 use Rattle.boot_program.specs.Batch.Parcels.{ParcelRecord}
-use Rattle.desk_core.specs.DeskRecords.{DeskRecord, journal_of, plain_of, tasks_at}
+use Rattle.desk_core.specs.DeskRecords.{DeskRecord, journal_of, plain_of, registers_at, tasks_at}
 use Rattle.desk_core.specs.Isolation.{IsIsolated, answered_of}
 use Rattle.desk_core.specs.Journals.{no_pie}
 use Rattle.desk_core.specs.Next.{after_event, reply_to}
 use Rattle.desk_core.specs.Quotas.{is_admitted}
+use Rattle.desk_core.specs.declared.batch.Batch.{Batch}
 use Rattle.desk_core.specs.declared.entry.FullEntry.{FullEntry}
 use Rattle.desk_core.specs.declared.event.Event.{Event}
 use Rattle.desk_core.specs.declared.event.OfferNote.{OfferNote}
@@ -28,13 +30,23 @@ turned d = record d { turns = (d.turns + 1) % 2 ^ 64 }
 abbrev pub entry_of : ℕ → Event → PieRecord → Reply → FullEntry
 entry_of pass e pie r = record { entry = record { pass = pass; event = e; reply = r }; pie = if is_admitted r then Some pie else None }
 
--- One event: the reply and the desk are those of Next, and the journal has one entry more, under the pass's number.
+-- what the batch of this number keeps as its certificate, where there is such a batch
+abbrev pub cert_at : List Batch → ℕ → Option (Option CertRecord)
+cert_at batches b = option_map (λ x. x.cert) (slice_get batches b)
+
+-- each batch that there was keeps the certificate that it had, or has none as before, but for the one that is registered
+abbrev pub CertsStay : List Batch → List Batch → Option ℕ → Type 0
+CertsStay old new registered = (b : ℕ) (x : Batch) → slice_get old b ≡ Some x → registered ≢ Some b → cert_at new b ≡ Some x.cert
+
+-- One event: the reply and the desk are those of Next, the journal has one entry more, under the pass's number, and no certificate
+-- is exchanged or taken away.
 pub record IsTurn (old new : DeskRecord) (pass : ℕ) (e : Event) (pie : PieRecord) (r : Reply) : Type 0 where
   pub replies : r ≡ reply_to (plain_of old) pass e
   pub becomes : plain_of new ≡ after_event (plain_of old) pass e pie
   pub journal : journal_of new ≡ journal_of old ++ entry_of pass e pie r ∷ []
   pub turns : new.turns ≡ (old.turns + 1) % 2 ^ 64
   pub clients : new.clients ≡ old.clients
+  pub certs : CertsStay old.batches new.batches (registers_at e r)
 
 -- what the journal keeps of an offer, and the offer's PIE
 abbrev pub offer_note : Offer → OfferNote
