@@ -6,7 +6,7 @@ pub mod SoundRuns
 pub mod MadePies
 pub mod KeptCells
 pub mod RunAnswers
-pub mod PutCells
+pub mod SizeSums
 pub mod Turns
 pub mod Rows
 pub mod Parts

@@ -2,9 +2,10 @@
 use Rattle.std.proofs.Common.{◌≡◌, ℕ, Option, Some, List, Result, Ok, Err, IfOk, refl, sym, ap, ◌∙◌}
 use Rattle.cairo_word.specs.Word.{Fields}
 use Rattle.cairo_model.proofs.Outcomes.{bind_goes}
-use Rattle.cairo_model.specs.Machine.Steps.{Registers, ◌>>=◌, required, register_in}
+use Rattle.cairo_model.specs.Machine.Steps.{Registers, ◌>>=◌, register_in}
 use Rattle.cairo_model.specs.Machine.Values.{Datum}
 use Rattle.cairo_model.specs.declared.fault.StepFault.TheVariants.{Dst, Op0}
+use Rattle.pie_replay.proofs.Operands.{required_on}
 use Rattle.seg_runner.specs.Deductions.{by_hash, caller_frame, return_address}
 use Rattle.seg_runner.specs.Endings.{completed}
 use Rattle.seg_runner.specs.Memories.{GrowingMemory, put_where_absent}
@@ -12,9 +13,6 @@ use Rattle.seg_runner.specs.Refusals.{RunCause, faulty}
 use Rattle.seg_runner.specs.Starts.{started}
 use Rattle.seg_runner.specs.Steps.{Configuration, concluded, fetched_fields, op1_at, operand_at, run_step, with_first_puts, with_last_puts}
 use Rattle.seg_runner.specs.Working.Running.{RunEnd, ended, run_of, runs_on}
-
-pub required_on : {A B E : Type 0} (e : E) (o : Option A) (f : A → Result B E) (x : A) → o ≡ Some x → required e o >>= f ≡ f x
-required_on e o f x is = rw is refl
 
 pub bound_on : {A B E : Type 0} (r : Result A E) (f : A → Result B E) (x : A) → r ≡ Ok x → r >>= f ≡ f x
 bound_on r f x is = rw is refl

@@ -5,14 +5,15 @@ use Rattle.cairo_model.proofs.Outcomes.{and_then_gives, required_is, some_is}
 use Rattle.cairo_model.proofs.Chains.{required_gives}
 use Rattle.cairo_model.specs.Machine.Steps.{Registers, value_arithmetic, moved, offset_number, found, register_in, spelled, op1_from, next}
 use Rattle.cairo_model.specs.Machine.Values.{Datum, number, place}
-use Rattle.cairo_model.specs.declared.fault.StepFault.TheVariants.{Fetch, Word, Dst, Op0, Op1}
+use Rattle.cairo_model.specs.declared.fault.StepFault.TheVariants.{Fetch, Word, Op1}
+use Rattle.pie_replay.specs.Transitions.{moved_on}
+use Rattle.pie_replay.proofs.Operands.{next_of_operands, required_on}
 use Rattle.seg_runner.specs.Steps.{Configuration, concluded, consistent, fetched_fields, op1_at, op1_base, operand_at, as_place, refused_at}
 use Rattle.seg_runner.specs.Memories.{GrowingMemory}
 use Rattle.seg_runner.specs.Refusals.{faulty, unknown_cell}
-use Rattle.seg_runner.specs.Working.Moving.{moved_on}
 use Rattle.seg_runner.specs.Working.Running.{IsInstruction}
 use Rattle.seg_runner.proofs.KeptCells.{KeepsCells}
-use Rattle.seg_runner.proofs.Parts.{bound_on, required_on}
+use Rattle.seg_runner.proofs.Parts.{bound_on}
 
 -- ---- operands
 
@@ -39,13 +40,11 @@ base_is f s before op0 base false other same e =
 
 module _ (m : Datum → Option Datum) (f : Fields) (s : Registers Datum) (x y z dst op0 op1 : Datum) (is : IsInstruction m f s x y z) (has_dst : m x ≡ Some dst) (has_op0 : m y ≡ Some op0) (has_op1 : m z ≡ Some op1) where
   pub next_is : next value_arithmetic m s ≡ moved_on f s dst op0 op1
-  unfolding next moved_on
   next_is =
-      required_on Fetch (m s.pc) _ is.cell is.is_fetched
-      ∙ required_on Word (spelled value_arithmetic is.cell) _ f is.is_decoded
-      ∙ required_on Dst (found value_arithmetic m (register_in s f.dst_reg) f.off_dst) _ dst (found_at m (register_in s f.dst_reg) f.off_dst x is.dst_at ∙ has_dst)
-      ∙ required_on Op0 (found value_arithmetic m (register_in s f.op0_reg) f.off_op0) _ op0 (found_at m (register_in s f.op0_reg) f.off_op0 y is.op0_at ∙ has_op0)
-      ∙ required_on Op1 (found value_arithmetic m (op1_from f s op0) f.off_op1) _ op1 (found_at m (op1_from f s op0) f.off_op1 z (is.op1_at op0 has_op0) ∙ has_op1)
+      next_of_operands m f s is.cell dst op0 op1 is.is_fetched is.is_decoded
+      (found_at m (register_in s f.dst_reg) f.off_dst x is.dst_at ∙ has_dst)
+      (found_at m (register_in s f.op0_reg) f.off_op0 y is.op0_at ∙ has_op0)
+      (found_at m (op1_from f s op0) f.off_op1 z (is.op1_at op0 has_op0) ∙ has_op1)
 
 -- ---- where the parts of a step gave them
 

@@ -2,30 +2,23 @@
 
 ghost use Rattle.std.specs.Prelude.{◌≡◌, option_map};
 ghost use Rattle.cairo_model.specs.Views.Machine.{datum, registers};
-ghost use Rattle.cairo_model.specs.Machine.Steps.{value_arithmetic, after as after_of};
 ghost use Rattle.cairo_word.specs.Instructions.{fields};
-ghost use Rattle.seg_runner.specs.Deductions.{Quotient, quotient_of, return_address as return_of, caller_frame as caller_of, deduced_op0 as op0_of, deduced_op1 as op1_of, deduced_dst as dst_of};
+ghost use Rattle.seg_runner.specs.Deductions.{Quotient, quotient_of, return_address as return_of, caller_frame as caller_of, deduced_op0 as op0_of, deduced_op1 as op1_of};
 
-use cairo_model::{State, Value, add, mul, size_felt, sub};
+use cairo_model::{State, Value, sub};
 use cairo_word::Instruction;
 use goldi_field::Felt;
+use pie_replay::following_pc;
 
 /// op0 of a call is the address after it.
 pub(crate) fn return_address(instruction: &Instruction, state: &State) -> Option<Value>
     ensures { option_map datum result ≡ return_of (fields instruction.now) (registers state.now) }
 {
     if instruction.opcode == 1 {
-        after(instruction, state)
+        following_pc(instruction, state)
     } else {
         None
     }
-}
-
-/// The address after the instruction.
-pub(crate) fn after(instruction: &Instruction, state: &State) -> Option<Value>
-    ensures { option_map datum result ≡ after_of value_arithmetic (fields instruction.now) (registers state.now) }
-{
-    add(state.pc, Value::Number(size_felt(instruction)))
 }
 
 /// dst of a call is the present frame pointer.
@@ -58,20 +51,6 @@ pub(crate) fn deduced_op1(instruction: &Instruction, dst: Value, op0: Value) -> 
         0 => Some(dst),
         1 => sub(dst, op0),
         _ => quotient(dst, op0),
-    }
-}
-
-/// The result of an instruction, which is dst of an assertion.
-pub(crate) fn deduced_dst(instruction: &Instruction, op0: Value, op1: Value) -> Option<Value>
-    ensures { option_map datum result ≡ dst_of (fields instruction.now) (datum op0) (datum op1) }
-{
-    if instruction.pc_update == 4 {
-        return Some(op1);
-    }
-    match instruction.res_logic {
-        0 => Some(op1),
-        1 => add(op0, op1),
-        _ => mul(op0, op1),
     }
 }
 

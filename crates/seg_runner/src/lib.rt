@@ -5,7 +5,6 @@ mod completion;
 mod deductions;
 mod hashes;
 mod laws;
-mod moving;
 mod operands;
 mod puts;
 mod refusal;

@@ -1,34 +1,13 @@
 //! Where an instruction finds its operands.
 
 ghost use Rattle.std.specs.Prelude.{◌≡◌, option_map};
-ghost use Rattle.cairo_model.specs.Machine.Steps.{value_arithmetic, register_in, spelled};
 ghost use Rattle.cairo_model.specs.Views.Machine.{datum, registers};
 ghost use Rattle.cairo_word.specs.Instructions.{fields};
 ghost use Rattle.seg_runner.specs.Steps.{operand_at as operand_of, op1_base as base_of};
 ghost use Rattle.seg_runner.specs.Working.Seen.{place_datum};
 
 use cairo_model::{Place, State, Value, add, offset_felt};
-use cairo_word::{Instruction, Reg, decode};
-
-/// The instruction that a cell's value spells, if it does.
-pub(crate) fn spelled_by(cell: Value) -> Option<Instruction>
-    ensures { option_map fields result ≡ spelled value_arithmetic (datum cell) }
-{
-    match cell {
-        Value::Number(n) => decode(n.value()).ok(),
-        Value::At(_) => None,
-    }
-}
-
-/// The value of a register.
-pub(crate) fn in_register(state: &State, reg: Reg) -> Value
-    ensures { datum result ≡ register_in (registers state.now) reg }
-{
-    match reg {
-        Reg::Ap => state.ap,
-        Reg::Fp => state.fp,
-    }
-}
+use cairo_word::Instruction;
 
 /// The address of an operand, where it is defined and a place.
 pub(crate) fn operand_at(from: Value, offset: i16) -> Option<Place>

@@ -3,23 +3,23 @@
 ghost use Rattle.std.specs.Prelude.{◌≡◌, Ok, Err, IfOk, OnOk, option_map, true};
 ghost use Rattle.cairo_model.specs.Views.Machine.{datum, registers};
 ghost use Rattle.seg_memory.specs.Memory.{memory_in};
+ghost use Rattle.pie_replay.specs.Transitions.{moved_on};
 ghost use Rattle.cairo_word.specs.Instructions.{fields};
 ghost use Rattle.seg_runner.specs.Deductions.{by_assertion as by_assertion_of, by_hash, put_asserted as asserted_of};
 ghost use Rattle.seg_runner.specs.Memories.{put_where_absent as put_absent_of};
 ghost use Rattle.seg_runner.specs.Steps.{concluded as conclusion, consistent as consistent_of, fetched_fields as fetched_by, op1_at as op1_by, refused_at, run_step, with_first_puts, with_last_puts};
 ghost use Rattle.seg_runner.specs.Views.{run_cause};
 ghost use Rattle.seg_runner.specs.Working.Seen.{configuration, growing, place_datum};
-ghost use Rattle.seg_runner.specs.Working.Moving.{moved_on};
 ghost use Rattle.seg_runner.specs.Working.Running.{HasSevenSizes, IsInstruction};
 
-use crate::deductions::{caller_frame, deduced_dst, deduced_op0, deduced_op1, return_address};
+use crate::deductions::{caller_frame, deduced_op0, deduced_op1, return_address};
 use crate::hashes::hash_output;
-use crate::moving::moved;
-use crate::operands::{in_register, op1_base, operand_at, spelled_by};
+use crate::operands::{op1_base, operand_at};
 use crate::puts::{put_at, put_where_absent};
 use crate::refusal::RunRefusal;
 use cairo_model::{End, Place, State, StepFault, Value};
 use cairo_word::Instruction;
+use pie_replay::{in_register, next_state, result_in, spelled_by};
 use seg_memory::SegMemory;
 use std::alloc::Global;
 
@@ -205,7 +205,7 @@ fn put_asserted(
             put_where_absent(alloc, memory, op1, value, of.number)
         }
         (None, Some(op0), Some(value)) => {
-            let value = deduced_dst(&of.instruction, op0, value);
+            let value = result_in(&of.instruction, op0, value);
             put_where_absent(alloc, memory, of.dst, value, of.number)
         }
         _ => Ok(()),
@@ -232,7 +232,7 @@ fn transition(of: &Operation, dst: Value, op0: Value, op1: Value) -> Result<Stat
     ensures ok { IfOk result (λ after. refused_at of.now.number (moved_on (fields of.now.instruction) (registers of.now.state) (datum dst) (datum op0) (datum op1)) ≡ Ok (registers after)) }
     ensures refused { (e : RunRefusal) → result ≡ Err (End.Refused e) → refused_at of.now.number (moved_on (fields of.now.instruction) (registers of.now.state) (datum dst) (datum op0) (datum op1)) ≡ Err (run_cause e) }
 {
-    match moved(&of.instruction, &of.state, dst, op0, op1) {
+    match next_state(&of.instruction, &of.state, dst, op0, op1) {
         Ok(after) => Ok(after),
         Err(fault) => Err(End::Refused(RunRefusal::Fault(of.number, fault))),
     }
@@ -246,7 +246,7 @@ fn consistent(of: &Operation, dst: Value, op0: Value, op1: Value) -> Result<(), 
     if of.instruction.opcode != 4 {
         return Ok(());
     }
-    match deduced_dst(&of.instruction, op0, op1) {
+    match result_in(&of.instruction, op0, op1) {
         None => Ok(()),
         Some(res) => {
             if res == dst {

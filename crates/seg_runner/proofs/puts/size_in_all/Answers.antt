@@ -1,6 +1,6 @@
 use Rattle.std.proofs.Common.{ℕ, ◌+◌, ◌≤◌, sum, take, arith}
 use Rattle.std.proofs.lemmas.List.Sums.{sum_by-take-le}
-use Rattle.seg_runner.proofs.PutCells.{sum_more}
+use Rattle.seg_runner.proofs.SizeSums.{sum_more}
 use Rattle.seg_runner.proofs.puts.size_in_all.Goals as goal
 
 pub overflow_add-total : goal.overflow_add-total

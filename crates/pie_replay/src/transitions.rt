@@ -1,19 +1,18 @@
-//! The machine's transition from the values of an instruction's cells on.
+//! The machine's transition from the values of an instruction's cells on, which replay and a runner share.
 
 ghost use Rattle.std.specs.Prelude.{◌≡◌, Ok, Err, MatchResult, option_map};
-ghost use Rattle.cairo_model.specs.Machine.Steps.{value_arithmetic, next_pc as next_pc_of, next_ap as next_ap_of, next_fp as next_fp_of, keeps_call as call_test, keeps_assert as assert_test, moved as moved_by};
-ghost use Rattle.cairo_model.specs.Views.Machine.{datum, registers};
+ghost use Rattle.cairo_model.specs.Machine.Steps.{value_arithmetic, after as after_of, moved, result_of, next_pc as next_pc_of, next_ap as next_ap_of, next_fp as next_fp_of, keeps_call as call_test, keeps_assert as assert_test};
+ghost use Rattle.cairo_model.specs.Views.Machine.{registers, datum};
 ghost use Rattle.cairo_word.specs.Instructions.{fields};
-ghost use Rattle.seg_runner.specs.Working.Moving.{moved_on};
+ghost use Rattle.pie_replay.specs.Transitions.{moved_on};
 
-use crate::deductions::{after, deduced_dst};
-use cairo_model::{State, StepFault, Value, add, felt_of, is_zero};
+use cairo_model::{State, StepFault, Value, add, felt_of, is_zero, mul, size_felt};
 use cairo_word::Instruction;
 use goldi_field::Felt;
 
-/// The state after an instruction whose cells hold these values, or the first fault.
-#[tactic(auto, unfolding(crate::specs::Working::Moving::moved_on))]
-pub(crate) fn moved(
+/// The state after an instruction whose cells hold these values, or the first fault from Res to Frame (docs/MACHINE.md).
+#[tactic(auto, unfolding(crate::specs::Transitions::moved_on))]
+pub fn next_state(
     instruction: &Instruction,
     state: &State,
     dst: Value,
@@ -24,7 +23,7 @@ pub(crate) fn moved(
         (λ after. moved_on (fields instruction.now) (registers state.now) (datum dst) (datum op0) (datum op1) ≡ Ok (registers after))
         (λ fault. moved_on (fields instruction.now) (registers state.now) (datum dst) (datum op0) (datum op1) ≡ Err fault) }
 {
-    let res = deduced_dst(instruction, op0, op1).ok_or(StepFault::Res)?;
+    let res = result_in(instruction, op0, op1).ok_or(StepFault::Res)?;
     let pc = next_pc(instruction, state, dst, op1, res).ok_or(StepFault::Jump)?;
     if !keeps_call(instruction, state, dst, op0) {
         return Err(StepFault::Call);
@@ -41,6 +40,28 @@ pub(crate) fn moved(
     Ok(State { pc, ap, fp })
 }
 
+/// The result of an instruction by its operands, each in a cell: none where the sum or the product isn't defined. A
+/// conditional jump has no result, and op1 stands in its place.
+pub fn result_in(instruction: &Instruction, op0: Value, op1: Value) -> Option<Value>
+    ensures { option_map datum result ≡ result_of value_arithmetic (fields instruction.now) (datum op0) (datum op1) }
+{
+    if instruction.pc_update == 4 {
+        return Some(op1);
+    }
+    match instruction.res_logic {
+        0 => Some(op1),
+        1 => add(op0, op1),
+        _ => mul(op0, op1),
+    }
+}
+
+/// The address after the instruction, one or two cells on: none beyond the last offset of a segment.
+pub fn following_pc(instruction: &Instruction, state: &State) -> Option<Value>
+    ensures { option_map datum result ≡ after_of value_arithmetic (fields instruction.now) (registers state.now) }
+{
+    add(state.pc, number(size_felt(instruction)))
+}
+
 fn next_pc(
     instruction: &Instruction,
     state: &State,
@@ -51,12 +72,12 @@ fn next_pc(
     ensures { option_map datum result ≡ next_pc_of value_arithmetic (fields instruction.now) (registers state.now) (datum dst) (datum op1) (datum res) }
 {
     match instruction.pc_update {
-        0 => after(instruction, state),
+        0 => following_pc(instruction, state),
         1 => Some(res),
         2 => add(state.pc, res),
         _ => {
             if is_zero(dst) {
-                after(instruction, state)
+                following_pc(instruction, state)
             } else {
                 add(state.pc, op1)
             }
@@ -70,7 +91,7 @@ fn keeps_call(instruction: &Instruction, state: &State, dst: Value, op0: Value) 
     if instruction.opcode != 1 {
         return true;
     }
-    match after(instruction, state) {
+    match following_pc(instruction, state) {
         None => false,
         Some(back) => same(back, op0) && same(dst, state.fp),
     }
@@ -113,7 +134,7 @@ fn next_fp(instruction: &Instruction, state: &State, dst: Value) -> Option<Value
 
 // The address above the two cells of a call.
 fn above_call(state: &State) -> Option<Value>
-    ensures { option_map datum result ≡ moved_by value_arithmetic (registers state.now).ap 2 }
+    ensures { option_map datum result ≡ moved value_arithmetic (registers state.now).ap 2 }
 {
     add(state.ap, number(felt_of(2)))
 }
