@@ -299,7 +299,7 @@ fn a_fact_of_two_jobs_is_told_once(rt: HostRuntime) -> Result<(), Fail> {
     let outputs = found?;
     assert_eq!(rt; outputs.len(), 1);
     for numbers in outputs.as_slice() {
-        assert_eq!(rt; numbers.as_slice(), &[felt_of(5)]);
+        assert_eq!(rt; numbers.as_slice(), [felt_of(5)].as_slice());
     }
     Ok(())
 }
