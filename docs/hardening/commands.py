@@ -107,9 +107,9 @@ class Command:
 
 
 def long_certificate(program):
-    """The certificate of 8,000 rows, which are checked in several threads."""
+    """The certificate of 64,000 rows, which are checked in eight chunks."""
     from make_pies import counting_down
-    return answered(program, ["place"], counting_down(1998)).output
+    return answered(program, ["place"], counting_down(15_998)).output
 
 
 def small_commands(program):
@@ -124,7 +124,7 @@ def small_commands(program):
         Command("list", five),
         Command("check", example("five.cert")),
         Command("check", example("batch.cert"), " of a batch"),
-        Command("check", long_certificate(program), " of 8,000 rows"),
+        Command("check", long_certificate(program), " of 64,000 rows"),
         Command("run", example("five.casm")),
         Command("run", example("down.casm"), " of a loop"),
         Command("run", example("no_label.casm"), " of a refused text"),
